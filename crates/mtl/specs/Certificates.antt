@@ -15,8 +15,9 @@ nodeOf rule c kids = record { line = c .line; rule = rule; row = c .row; count =
 mutual
   pub data Cert (T : Rules) (R : List Row) : Claim → List Node → Type 0 where
     node :
-      {rule : ℕ} {c : Claim} {kids : List Claim} {ns : List Node} → Follows T R rule c kids → Certs T R kids ns →
-      Cert T R c (ns ++ (nodeOf rule c kids ∷ []))
+        {rule : ℕ} {c : Claim} {kids : List Claim} {ns : List Node} → Follows T R rule c kids → Certs T R kids ns →
+        Cert T R c (ns ++ (nodeOf rule c kids ∷ []))
+
   pub data Certs (T : Rules) (R : List Row) : List Claim → List Node → Type 0 where
     none : Certs T R [] []
     more : {c : Claim} {cs : List Claim} {ns ms : List Node} → Cert T R c ns → Certs T R cs ms → Certs T R (c ∷ cs) (ns ++ ms)

@@ -18,11 +18,12 @@ Ahead rule kids rule′ kids′ = (rule < rule′) ⊎ ((rule ≡ rule′) × (f
 mutual
   pub data Chosen (T : Rules) (R : List Row) : Claim → List Node → Type 0 where
     chosen :
-      {rule : ℕ} {c : Claim} {kids : List Claim} {ns : List Node} → Follows T R rule c kids → ChosenAll T R kids ns →
-      ((rule′ : ℕ) (kids′ : List Claim) (ns′ : List Node) → Follows T R rule′ c kids′ → Certs T R kids′ ns′ →
+        {rule : ℕ} {c : Claim} {kids : List Claim} {ns : List Node} → Follows T R rule c kids → ChosenAll T R kids ns →
+        ((rule′ : ℕ) (kids′ : List Claim) (ns′ : List Node) → Follows T R rule′ c kids′ → Certs T R kids′ ns′ →
         (length ns < length ns′) ⊎ ((length ns ≡ length ns′) × Ahead rule kids rule′ kids′)) →
-      Chosen T R c (ns ++ (nodeOf rule c kids ∷ []))
+        Chosen T R c (ns ++ (nodeOf rule c kids ∷ []))
+
   pub data ChosenAll (T : Rules) (R : List Row) : List Claim → List Node → Type 0 where
     chosen-none : ChosenAll T R [] []
     chosen-more :
-      {c : Claim} {cs : List Claim} {ns ms : List Node} → Chosen T R c ns → ChosenAll T R cs ms → ChosenAll T R (c ∷ cs) (ns ++ ms)
+        {c : Claim} {cs : List Claim} {ns ms : List Node} → Chosen T R c ns → ChosenAll T R cs ms → ChosenAll T R (c ∷ cs) (ns ++ ms)

@@ -52,21 +52,21 @@ forms R i (next w l) =
     fixed 19 broken [] (ltb (i + 1) (length R) && past (w .to) (timeAt R (i + 1) - timeAt R i)) ∷ []
 forms R i (since w l r) =
     form 20 held (first-then (Held r i) (Held l i)) 0 (suc i) (λ j. Held r j ∷ each held l (range (j + 1) i))
-      (λ j. leb j i && inside w (timeAt R i - timeAt R j)) ∷
+    (λ j. leb j i && inside w (timeAt R i - timeAt R j)) ∷
     form 21 broken (first-then (Broken l i) (Broken r i)) 1 i
-      (λ j. Broken l j ∷ each broken r (keep (λ k. leb (w .from) (timeAt R i - timeAt R k)) (range j i)))
-      (λ j. (leb 1 j && leb j i) && (upTo (w .to) (timeAt R i - timeAt R (j - 1)) && leb (w .from) (timeAt R i - timeAt R 0))) ∷
+    (λ j. Broken l j ∷ each broken r (keep (λ k. leb (w .from) (timeAt R i - timeAt R k)) (range j i)))
+    (λ j. (leb 1 j && leb j i) && (upTo (w .to) (timeAt R i - timeAt R (j - 1)) && leb (w .from) (timeAt R i - timeAt R 0))) ∷
     form 22 broken (any-of (Broken r i)) 0 1 (λ _. each broken r (keep (λ k. inside w (timeAt R i - timeAt R k)) (range 0 i)))
-      (λ _. leb (w .from) (timeAt R i - timeAt R 0)) ∷
+    (λ _. leb (w .from) (timeAt R i - timeAt R 0)) ∷
     fixed 23 broken [] (ltb (timeAt R i - timeAt R 0) (w .from)) ∷ []
 forms R i (until w l r) =
     form 24 held (first-then (Held r i) (Held l i)) i (length R - i) (λ j. Held r j ∷ each held l (run i (j - i)))
-      (λ j. (leb i j && ltb j (length R)) && inside w (timeAt R j - timeAt R i)) ∷
+    (λ j. (leb i j && ltb j (length R)) && inside w (timeAt R j - timeAt R i)) ∷
     form 25 broken (first-then (Broken l i) (Broken r i)) i (length R - i)
-      (λ j. Broken l j ∷ each broken r (keep (λ k. leb (w .from) (timeAt R k - timeAt R i)) (range i j)))
-      (λ j. (leb i j && ltb j (length R)) && upTo (w .to) (timeAt R j - timeAt R i)) ∷
+    (λ j. Broken l j ∷ each broken r (keep (λ k. leb (w .from) (timeAt R k - timeAt R i)) (range i j)))
+    (λ j. (leb i j && ltb j (length R)) && upTo (w .to) (timeAt R j - timeAt R i)) ∷
     form 26 broken (any-of (Broken r i)) 0 1 (λ _. each broken r (keep (λ k. inside w (timeAt R k - timeAt R i)) (run i (length R - i))))
-      (λ _. past (w .to) (timeAt R (length R - 1) - timeAt R i)) ∷ []
+    (λ _. past (w .to) (timeAt R (length R - 1) - timeAt R i)) ∷ []
 
 -- one way to rule: a rule and the children that it asks for
 pub record Step : Type 0 where
