@@ -18,8 +18,9 @@ use Rattle.mtl.specs.Questions.{firstNo}
 use Rattle.mtl.specs.Rows.{Row}
 use Rattle.mtl.proofs.Asked.{all-yes, yes-all}
 use Rattle.mtl.proofs.Checks.{Allows, allowed, Gives, Formed, formed}
-use Rattle.mtl.proofs.Lists.{AllOf, AnyOf, here, there}
-use Rattle.mtl.proofs.Machine.{Runs, stop, take as takes, accepts}
+use Rattle.mtl.specs.Lists.{AllOf, AnyOf, here, there}
+use Rattle.mtl.specs.Waiting.{Leaves, stop, take as takes}
+use Rattle.mtl.proofs.Machine.{accepts}
 use Rattle.mtl.proofs.Tests.{both, fst-of, snd-of}
 
 pub ruling-same : (a b : Ruling) → Yes (sameRuling a b) → a ≡ b
@@ -157,16 +158,16 @@ take-front [] ys = refl
 take-front (x ∷ xs) ys = ap (_∷_ x) (take-front xs ys)
 
 module _ (T : Rules) (R : List Row) where
-  record Took (s : List Claim) (d : Node) (t : List Claim) : Type 0 where
-    rest : List Claim
-    kids : List Claim
-    claim : Claim
-    stack-was : rest ++ kids ≡ s
-    node-is : nodeOf (d .rule) claim kids ≡ d
-    stack-is : rest ++ (claim ∷ []) ≡ t
-    follows : Follows T R (d .rule) claim kids
+  pub record Took (s : List Claim) (d : Node) (t : List Claim) : Type 0 where
+    pub rest : List Claim
+    pub kids : List Claim
+    pub claim : Claim
+    pub stack-was : rest ++ kids ≡ s
+    pub node-is : nodeOf (d .rule) claim kids ≡ d
+    pub stack-is : rest ++ (claim ∷ []) ≡ t
+    pub follows : Follows T R (d .rule) claim kids
 
-  took : (s : List Claim) (d : Node) (t : List Claim) → nodeStep T R s d ≡ goes t → Took s d t
+  pub took : (s : List Claim) (d : Node) (t : List Claim) → nodeStep T R s d ≡ goes t → Took s d t
   unfolding nodeStep
   took s d t e = by-form (formAt (forms R (d .row) (lineAt T (d .line))) (d .rule)) refl e
     where
@@ -258,31 +259,31 @@ module _ (T : Rules) (R : List Row) where
       taken : take (length (s ++ kids) - length kids) (s ++ kids) ≡ s
       taken = ap (λ x. take x (s ++ kids)) front ∙ take-front s kids
 
-  runs-check : {s t : List Claim} {ns : List Node} (k : ℕ) (c : Claim) → Runs T R s ns t → t ≡ c ∷ [] → checks T R s ns k ≡ accepted c
+  leaves-check : {s t : List Claim} {ns : List Node} (k : ℕ) (c : Claim) → Leaves T R s ns t → t ≡ c ∷ [] → checks T R s ns k ≡ accepted c
   unfolding checks
-  runs-check {s = s} k c stop e = ap (λ x. ended x k) e
-  runs-check {t = t} k c (takes s {kids = kids} {c = d} {rule = rule} {ns = ns} f r) e =
-      ap (λ w. after ns k w) (goes-on s kids rule d f) ∙ runs-check (suc k) c r e
+  leaves-check {s = s} k c stop e = ap (λ x. ended x k) e
+  leaves-check {t = t} k c (takes s {kids = kids} {c = d} {rule = rule} {ns = ns} f r) e =
+      ap (λ w. after ns k w) (goes-on s kids rule d f) ∙ leaves-check (suc k) c r e
     where
       after : List Node → ℕ → Went → Verdict
       after ns k w = elim w [ stops q ↦ refused q k | goes t ↦ checks T R t ns (suc k) ]
 
-  check-runs : (s : List Claim) (ns : List Node) (k : ℕ) (c : Claim) → checks T R s ns k ≡ accepted c → Runs T R s ns (c ∷ [])
+  check-leaves : (s : List Claim) (ns : List Node) (k : ℕ) (c : Claim) → checks T R s ns k ≡ accepted c → Leaves T R s ns (c ∷ [])
   unfolding checks
-  check-runs [] [] k c e = let z : _≡_ {A = ℕ} 0 1 = cc in absurd (omega arith)
-  check-runs (x ∷ []) [] k c e = let q : x ≡ c = cc in subst (λ y. Runs T R (x ∷ []) [] (y ∷ [])) q stop
-  check-runs (x ∷ y ∷ s) [] k c e = let z : _≡_ {A = ℕ} 0 1 = cc in absurd (omega arith)
-  check-runs s (d ∷ ns) k c e = go (nodeStep T R s d) refl (λ t. check-runs t ns (suc k) c) e
+  check-leaves [] [] k c e = let z : _≡_ {A = ℕ} 0 1 = cc in absurd (omega arith)
+  check-leaves (x ∷ []) [] k c e = let q : x ≡ c = cc in subst (λ y. Leaves T R (x ∷ []) [] (y ∷ [])) q stop
+  check-leaves (x ∷ y ∷ s) [] k c e = let z : _≡_ {A = ℕ} 0 1 = cc in absurd (omega arith)
+  check-leaves s (d ∷ ns) k c e = go (nodeStep T R s d) refl (λ t. check-leaves t ns (suc k) c) e
     where
-      go : (w : Went) → nodeStep T R s d ≡ w → ((t : List Claim) → checks T R t ns (suc k) ≡ accepted c → Runs T R t ns (c ∷ [])) →
-          (elim w as (λ _. Verdict) [ stops q ↦ refused q k | goes t ↦ checks T R t ns (suc k) ]) ≡ accepted c → Runs T R s (d ∷ ns) (c ∷ [])
+      go : (w : Went) → nodeStep T R s d ≡ w → ((t : List Claim) → checks T R t ns (suc k) ≡ accepted c → Leaves T R t ns (c ∷ [])) →
+          (elim w as (λ _. Verdict) [ stops q ↦ refused q k | goes t ↦ checks T R t ns (suc k) ]) ≡ accepted c → Leaves T R s (d ∷ ns) (c ∷ [])
       go (stops q) ew ih e = let z : _≡_ {A = ℕ} 0 1 = cc in absurd (omega arith)
       go (goes t) ew ih e =
           let k = took s d t ew in
-          subst (λ x. Runs T R x (d ∷ ns) (c ∷ [])) (k .stack-was)
-          (subst (λ x. Runs T R (k .rest ++ k .kids) (x ∷ ns) (c ∷ [])) (k .node-is)
-          (takes (k .rest) (k .follows) (subst (λ x. Runs T R x ns (c ∷ [])) (sym (k .stack-is)) (ih t e))))
+          subst (λ x. Leaves T R x (d ∷ ns) (c ∷ [])) (k .stack-was)
+          (subst (λ x. Leaves T R (k .rest ++ k .kids) (x ∷ ns) (c ∷ [])) (k .node-is)
+          (takes (k .rest) (k .follows) (subst (λ x. Leaves T R x ns (c ∷ [])) (sym (k .stack-is)) (ih t e))))
 
   pub check-is : (ns : List Node) (c : Claim) → checks T R [] ns 0 ≡ accepted c ↔ Cert T R c ns
   check-is ns c =
-      (λ e. accepts T R c ns .0 (check-runs [] ns 0 c e), λ d. runs-check 0 c (accepts T R c ns .1 d) refl)
+      (λ e. accepts T R c ns .0 (check-leaves [] ns 0 c e), λ d. leaves-check 0 c (accepts T R c ns .1 d) refl)

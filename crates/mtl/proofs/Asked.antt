@@ -8,7 +8,7 @@ use native.Mathlib.Omega.{arith}
 use lib.Dec.{T as Yes}
 use Rattle.std.specs.declared.option.Option.the-variants.{Some, None}
 use Rattle.mtl.specs.Questions.{Question, firstNo, FirstNot}
-use Rattle.mtl.proofs.Lists.{AllOf}
+use Rattle.mtl.specs.Lists.{AllOf}
 
 -- no question is answered no
 pub all-yes : (qs : List Question) → AllOf (λ (q : Question). Yes (q .1)) qs → firstNo qs ≡ None

@@ -11,7 +11,7 @@ use Rattle.mtl.specs.Forms.{Form, form, forms}
 use Rattle.mtl.specs.Lines.{Line, mark, neg, and, or, previous, next, since, until, Rules, lineAt}
 use Rattle.mtl.specs.Rows.{Row, rowAt, timeAt}
 use Rattle.mtl.specs.Windows.{upTo}
-use Rattle.mtl.proofs.Lists.{AllOf, AnyOf, here, there}
+use Rattle.mtl.specs.Lists.{AllOf, AnyOf, here, there}
 use Rattle.mtl.proofs.Tests.{stands-test, test-stands, inside-test, upTo-test, test-inside, test-upTo, past-test, test-past, eq-test, both, fst-of, snd-of}
 
 module _ (T : Rules) (R : List Row) where

@@ -15,7 +15,8 @@ use Rattle.mtl.specs.Lines.{Window, Line, mark, neg, and, or, previous, next, 
 use Rattle.mtl.specs.Reach.{Reach}
 use Rattle.mtl.specs.Rows.{rowAt, stands, Row, NeverFalls, timeAt}
 use Rattle.mtl.specs.Windows.{UpTo, Past, Inside}
-use Rattle.mtl.proofs.Lists.{AllOf, map-all, keep-all, run-all, range-all}
+use Rattle.mtl.specs.Lists.{AllOf}
+use Rattle.mtl.proofs.Lists.{map-all, keep-all, run-all, range-all}
 use Rattle.mtl.proofs.Operands.{Earlier, earlier-at}
 use Rattle.std.proofs.shelf.Tests.{cases-bool}
 use Rattle.mtl.proofs.Tests.{yes-true, not-true, stands-test, test-stands, past-not, past-up, up-or-past, test-inside}

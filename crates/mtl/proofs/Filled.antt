@@ -14,7 +14,8 @@ use Rattle.mtl.specs.Forms.{Step, steps}
 use Rattle.mtl.specs.Lines.{Rules, WellFormed}
 use Rattle.mtl.specs.Rows.{Row}
 use Rattle.mtl.specs.Shortest.{chained, shorter, ofAll, ofAny, written, certificate}
-use Rattle.mtl.proofs.Lists.{AllOf, all-weaken}
+use Rattle.mtl.specs.Lists.{AllOf}
+use Rattle.mtl.proofs.Lists.{all-weaken}
 use Rattle.mtl.proofs.Shortest.{lower}
 use Rattle.mtl.proofs.Ways.{good as steps-follow}
 

@@ -7,7 +7,8 @@ use native.Mathlib.Decide.{ℕ-discrete}
 use lib.Dec.{T as Yes}
 use Rattle.mtl.specs.Forms.{Step, guard, forEach}
 use Rattle.mtl.specs.Ranges.{run}
-use Rattle.mtl.proofs.Lists.{AllOf, AnyOf, here, any-left, any-right, all-both}
+use Rattle.mtl.specs.Lists.{AllOf, AnyOf, here}
+use Rattle.mtl.proofs.Lists.{any-left, any-right, all-both}
 
 pub any-guard : (P : Step → Type 0) (b : Bool) (xs : List Step) → Yes b → AnyOf P xs → AnyOf P (guard b xs)
 unfolding guard

@@ -5,18 +5,10 @@ use mathlib.Core.List.{List, [], _∷_, _++_, map}
 use mathlib.Core.Bool.{Bool, true, false, cond}
 use native.Mathlib.Omega.{arith}
 use native.Mathlib.Decide.{ℕ-discrete}
+use lib.ListN.{length, getD}
 use lib.Dec.{T}
 use Rattle.mtl.specs.Ranges.{run, range, keep}
-
--- P of each
-abbrev pub AllOf {ℓ} : {A : Type ℓ} → (A → Type 0) → List A → Type 0
-AllOf P [] = Unit {0}
-AllOf P (c ∷ cs) = P c × AllOf P cs
-
--- P of some
-pub data AnyOf {A : Type 0} (P : A → Type 0) : List A → Type 0 where
-  here : {x : A} {xs : List A} → P x → AnyOf P (x ∷ xs)
-  there : {x : A} {xs : List A} → AnyOf P xs → AnyOf P (x ∷ xs)
+use Rattle.mtl.specs.Lists.{AllOf, AnyOf, here, there}
 
 -- each of a map
 pub all-map : {A B : Type 0} (P : B → Type 0) (f : A → B) (xs : List A) → AllOf P (map f xs) → AllOf (λ x. P (f x)) xs
@@ -83,3 +75,14 @@ any-right P (x ∷ xs) ys h = there (any-right P xs ys h)
 pub all-both : {A : Type 0} (P : A → Type 0) (xs ys : List A) → AllOf P xs → AllOf P ys → AllOf P (xs ++ ys)
 all-both P [] ys h g = g
 all-both P (x ∷ xs) ys h g = (h .0, all-both P xs ys (h .1) g)
+
+-- an element that is one of a list stands at some place, and what holds of each holds of it
+pub any-place : {A : Type 0} (x : A) (xs : List A) → AnyOf (λ y. y ≡ x) xs → (k : ℕ) × (k < length xs) × (getD xs k x ≡ x)
+any-place x [] h = elim h [ ]
+any-place x (y ∷ xs) (here e) = (zero, omega arith, e)
+any-place x (y ∷ xs) (there h) = let p = any-place x xs h in let lt = p .1 in (suc (p .0), omega arith, p .2)
+
+pub all-place : {A : Type 0} (P : A → Type 0) (x : A) (xs : List A) → AllOf P xs → (k : ℕ) → k < length xs → P (getD xs k x)
+all-place P x [] h k lt = absurd (omega arith)
+all-place P x (y ∷ xs) h zero lt = h .0
+all-place P x (y ∷ xs) h (suc k) lt = all-place P x xs (h .1) k (omega arith)

@@ -7,28 +7,22 @@ use Rattle.mtl.specs.Claims.{Claim, Node}
 use Rattle.mtl.specs.Follows.{Follows}
 use Rattle.mtl.specs.Lines.{Rules}
 use Rattle.mtl.specs.Rows.{Row}
+use Rattle.mtl.specs.Waiting.{Leaves, stop, take}
 use Rattle.mtl.proofs.Lists.{append-none}
 
--- the row of waiting subtrees, its end last: a node takes its children off the end and puts itself there
-pub data Runs (T : Rules) (R : List Row) : List Claim → List Node → List Claim → Type 0 where
-  stop : {s : List Claim} → Runs T R s [] s
-  take :
-      (s : List Claim) {t kids : List Claim} {c : Claim} {rule : ℕ} {ns : List Node} → Follows T R rule c kids → Runs T R (s ++ (c ∷ [])) ns t →
-      Runs T R (s ++ kids) (nodeOf rule c kids ∷ ns) t
-
 module _ (T : Rules) (R : List Row) where
-  runs-append : {s t u : List Claim} {ns ms : List Node} → Runs T R s ns t → Runs T R t ms u → Runs T R s (ns ++ ms) u
+  pub runs-append : {s t u : List Claim} {ns ms : List Node} → Leaves T R s ns t → Leaves T R t ms u → Leaves T R s (ns ++ ms) u
   runs-append stop q = q
   runs-append (take s f p) q = take s f (runs-append p q)
 
   mutual
-    cert-runs : {c : Claim} {ns : List Node} → Cert T R c ns → (s : List Claim) → Runs T R s ns (s ++ (c ∷ []))
+    cert-runs : {c : Claim} {ns : List Node} → Cert T R c ns → (s : List Claim) → Leaves T R s ns (s ++ (c ∷ []))
     cert-runs (node f cs) s = runs-append (certs-run cs s) (take s f stop)
 
-    certs-run : {cs : List Claim} {ns : List Node} → Certs T R cs ns → (s : List Claim) → Runs T R s ns (s ++ cs)
-    certs-run none s = subst (λ t. Runs T R s [] t) (sym (append-none s)) stop
+    certs-run : {cs : List Claim} {ns : List Node} → Certs T R cs ns → (s : List Claim) → Leaves T R s ns (s ++ cs)
+    certs-run none s = subst (λ t. Leaves T R s [] t) (sym (append-none s)) stop
     certs-run (more {c = c} {cs = cs} {ms = ms} d ds) s =
-        runs-append (cert-runs d s) (subst (λ t. Runs T R (s ++ (c ∷ [])) ms t) (append-assoc s (c ∷ []) cs) (certs-run ds (s ++ (c ∷ []))))
+        runs-append (cert-runs d s) (subst (λ t. Leaves T R (s ++ (c ∷ [])) ms t) (append-assoc s (c ∷ []) cs) (certs-run ds (s ++ (c ∷ []))))
 
   pub record Split (s t : List Claim) (ns : List Node) : Type 0 where
     pub first : List Node
@@ -61,7 +55,7 @@ module _ (T : Rules) (R : List Row) where
   only {c = c} (more {ns = a} d none) = subst (λ x. Cert T R c x) (sym (append-none a)) d
 
   -- what waits, with the nodes read so far
-  runs-certs : {s t : List Claim} {ns ms : List Node} → Certs T R s ms → Runs T R s ns t → Certs T R t (ms ++ ns)
+  runs-certs : {s t : List Claim} {ns ms : List Node} → Certs T R s ms → Leaves T R s ns t → Certs T R t (ms ++ ns)
   runs-certs {t = t} {ms = ms} h stop = subst (λ x. Certs T R t x) (sym (append-none ms)) h
   runs-certs {t = t} {ms = ms} h (take s {kids = kids} {c = c} {rule = rule} {ns = ns} f p) =
       let r = split s h in
@@ -70,5 +64,5 @@ module _ (T : Rules) (R : List Row) where
       (ap (λ x. x ++ ns) (sym (append-assoc (r .first) (r .second) z)) ∙ append-assoc (r .first ++ r .second) z ns ∙ ap (λ x. x ++ (z ++ ns)) (r .joined))
       (runs-certs (join (r .of-first) (one (node f (r .of-second)))) p)
 
-  pub accepts : (c : Claim) (ns : List Node) → Runs T R [] ns (c ∷ []) ↔ Cert T R c ns
+  pub accepts : (c : Claim) (ns : List Node) → Leaves T R [] ns (c ∷ []) ↔ Cert T R c ns
   accepts c ns = (λ h. only (runs-certs none h), λ d. cert-runs d [])

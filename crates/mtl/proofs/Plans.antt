@@ -14,12 +14,9 @@ use Rattle.mtl.specs.Claims.{Claim, Node}
 use Rattle.mtl.specs.Forms.{Step, steps}
 use Rattle.mtl.specs.Lines.{Rules, WellFormed}
 use Rattle.mtl.specs.Rows.{Row}
-use Rattle.mtl.specs.Shortest.{chained, shorter, ofAll, ofAny, certificate}
+use Rattle.mtl.specs.Shortest.{attempt, chained, shorter, ofAll, ofAny, certificate}
 use Rattle.mtl.proofs.Filled.{Filled, sum-cells, close, filled-chained, filled-any, best-cell, certificate-at, on-kids}
-use Rattle.mtl.proofs.Lists.{AllOf}
-
-abbrev attempt : (Claim → Option (List Node)) → Claim → Step → Option (List Node)
-attempt f c s = chained (ofAll f (s .kids)) (Some (nodeOf (s .rule) c (s .kids) ∷ []))
+use Rattle.mtl.specs.Lists.{AllOf}
 
 -- the first of two is taken by their cells as by their sizes, if the smaller is below the cap
 pick-first : (o p : Option (List Node)) → Filled o → Filled p → cell (shorter o p) ≤ 4096 →

@@ -8,6 +8,7 @@ use lib.ListN.{length, length-append}
 use lib.Dec.{T as Yes, leb, ltb, eqb, leb→le, le→leb, ltb→lt, lt→ltb}
 use Rattle.std.specs.declared.option.Option.{Option}
 use Rattle.std.specs.declared.option.Option.the-variants.{Some, None}
+use Rattle.std.specs.declared.result.Result.{Result}
 use Rattle.std.specs.declared.result.Result.the-variants.{Ok, Err}
 use Rattle.mtl.specs.Bytes.{nodes, bytes}
 use Rattle.mtl.specs.Certificates.{nodeOf, Cert, node, Certified}
@@ -26,56 +27,11 @@ use Rattle.mtl.proofs.Checks.{formed}
 use Rattle.mtl.proofs.Complete.{complete}
 use Rattle.mtl.proofs.Consistent.{one-ruling}
 use Rattle.mtl.proofs.Shortest.{best-certificate}
+use Rattle.mtl.specs.Laws.{SettleSays}
+use Rattle.mtl.proofs.Sound.{sound}
+use Rattle.mtl.proofs.Encoding.{length-bytes, length-nodes}
+use Rattle.mtl.proofs.Exact.{check-bytes, accepted-certificate}
 use Rattle.mtl.proofs.Tests.{both, fst-of, snd-of}
-
--- six bytes a node, read back
-two : (x : ℕ) → (x / 256) * 256 + x % 256 ≡ x
-two x = omega arith
-
-pub nodes-bytes : (ns : List Node) → nodes (bytes ns) ≡ ns
-nodes-bytes [] = refl
-nodes-bytes (d ∷ ds) = ap₂ _∷_ (λ i. record { line = d .line; rule = d .rule; row = two (d .row) i; count = two (d .count) i }) (nodes-bytes ds)
-
-pub length-bytes : (ns : List Node) → length (bytes ns) ≡ 6 * length ns
-length-bytes [] = refl
-length-bytes (d ∷ ds) = let e = length-bytes ds in omega arith
-
-pub length-nodes : (bs : List ℕ) → 6 * length (nodes bs) ≤ length bs
-length-nodes [] = omega arith
-length-nodes (a ∷ []) = omega arith
-length-nodes (a ∷ b ∷ []) = omega arith
-length-nodes (a ∷ b ∷ c ∷ []) = omega arith
-length-nodes (a ∷ b ∷ c ∷ d ∷ []) = omega arith
-length-nodes (a ∷ b ∷ c ∷ d ∷ e ∷ []) = omega arith
-length-nodes (a ∷ b ∷ c ∷ d ∷ e ∷ f ∷ rest) = let h = length-nodes rest in omega arith
-
-some-node : {T : Rules} {R : List Row} {c : Claim} {ns : List Node} → Cert T R c ns → 1 ≤ length ns
-some-node (node {rule = rule} {c = c} {kids = kids} {ns = ns} f cs) = let e = length-append ns (nodeOf rule c kids ∷ []) in omega arith
-
-accepts-none : (o : Option ℕ) (v : Verdict) (c : Claim) → unless o v ≡ accepted c → v ≡ accepted c
-accepts-none None v c e = e
-accepts-none (Some q) v c e = let z : _≡_ {A = ℕ} 0 1 = cc in absurd (omega arith)
-
-module _ (T : Rules) (R : List Row) where
-  -- Check accepts a certificate's bytes, given stack enough
-  pub check-bytes : (c : Claim) (ns : List Node) (k : ℕ) → Cert T R c ns → length ns ≤ 4096 → length ns ≤ k → checkAnswer T R (bytes ns) k ≡ accepted c
-  unfolding checkAnswer
-  check-bytes c ns k h small room =
-      let l = length-bytes ns in
-      let o = some-node h in
-      let w : length (bytes ns) % 6 ≡ 0 = omega arith in
-      let s : 0 < length (bytes ns) = omega arith in
-      let m : length (bytes ns) ≤ 24576 = omega arith in
-      let r : length (bytes ns) / 6 ≤ k = omega arith in
-      ap (λ x. unless x (checks T R [] (nodes (bytes ns)) 0))
-      (all-yes (checkQuestions (length (bytes ns)) k)
-      (both _ _ (lt→ltb _ _ s) (subst (λ x. Yes (eqb x 0)) (sym w) tt), (le→leb _ _ m, (le→leb _ _ r, tt)))) ∙
-      (ap (λ x. checks T R [] x 0) (nodes-bytes ns) ∙ check-is T R ns c .1 h)
-
-  -- what Check accepts is a certificate
-  pub check-cert : (c : Claim) (bs : List ℕ) (k : ℕ) → checkAnswer T R bs k ≡ accepted c → Cert T R c (nodes bs)
-  unfolding checkAnswer
-  check-cert c bs k e = check-is T R (nodes bs) c .0 (accepts-none (firstNo (checkQuestions (length bs) k)) (checks T R [] (nodes bs) 0) c e)
 
 -- the settlement is a certificate of least size for the one ruling that has any
 abbrev pub Settles : Rules → List Row → ℕ → ℕ → Option Settlement → Type 0
@@ -205,3 +161,26 @@ module _ (T : Rules) (R : List Row) (wf : WellFormed T) (up : NeverFalls R) (n i
 -- a certified claim's line is in the table, and its row in the log
 pub cert-within : {T : Rules} {R : List Row} {c : Claim} {ns : List Node} → Cert T R c ns → (c .line < length T) × (c .row < length R)
 cert-within {T = T} {R = R} (node f cs) = let h = formed T R f in (h .line-in, h .row-in)
+
+-- what an answer of Settle says
+pub settle-says :
+    (T : Rules) → WellFormed T → (R : List Row) → NeverFalls R → (n i : ℕ) (ls : Lengths) (a : Result Settled ℕ) (out : List ℕ) →
+    settleAnswer T R n i ls ≡ a → out ≡ settleWrites T R n i a → SettleSays T R n i ls a out
+settle-says T wf R up n i ls (Ok s) out e w =
+    let r = ruled T R wf up n i s ls e in
+    let z = r .sized in
+    let f = r .few in
+    let is : out ≡ bytes (r .proof) = w ∙ r .writes in
+    record {
+      true-always = λ ρ h. sound T wf R ρ h (r .cert);
+      checked = λ stack le.
+          subst (λ bs. checkAnswer T R bs stack ≡ accepted (claim n i (s .ruling))) (sym is)
+          (check-bytes T R (claim n i (s .ruling)) (r .proof) stack (r .cert) (omega arith) (omega arith));
+      sized = ap length is ∙ length-bytes (r .proof) ∙ ap (λ k. 6 * k) z;
+      shortest = λ cert stack a.
+          let m = r .least (nodes cert) (accepted-certificate T R (claim n i (s .ruling)) cert stack a .2) in
+          let l = length-nodes cert in
+          omega arith;
+    }
+settle-says T wf R up n i ls (Err q) out e w =
+    (asks T R wf up n i ls q e, λ reach is. in-reach T R wf up n i ls reach (e ∙ ap Err is))

@@ -15,7 +15,8 @@ use Rattle.mtl.specs.Forms.{Step, by, steps}
 use Rattle.mtl.specs.Lines.{Line, and, Rules, WellFormed}
 use Rattle.mtl.specs.Rows.{Row}
 use Rattle.mtl.specs.Shortest.{chained, shorter, ofAll, ofAny, written, certificate, Best}
-use Rattle.mtl.proofs.Lists.{AllOf, AnyOf, here, there, all-weaken}
+use Rattle.mtl.specs.Lists.{AllOf, AnyOf, here, there}
+use Rattle.mtl.proofs.Lists.{all-weaken}
 use Rattle.mtl.proofs.Operands.{Earlier, earlier-at}
 use Rattle.mtl.proofs.Ways.{good as steps-follow, found}
 

@@ -15,7 +15,8 @@ use Rattle.mtl.specs.Formulas.{shape, formula, Truth}
 use Rattle.mtl.specs.Lines.{Line, mark, neg, and, or, previous, next, since, until, Rules, WellFormed}
 use Rattle.mtl.specs.Rows.{Row, timeAt}
 use Rattle.mtl.specs.Windows.{Past, Inside, inside}
-use Rattle.mtl.proofs.Lists.{AllOf, all-map, all-keep, all-run, all-range}
+use Rattle.mtl.specs.Lists.{AllOf}
+use Rattle.mtl.proofs.Lists.{all-map, all-keep, all-run, all-range}
 use Rattle.mtl.proofs.Unrolled.{formula-at}
 use Rattle.mtl.proofs.Tests.{past-not, past-up, inside-test}
 

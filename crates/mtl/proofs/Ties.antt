@@ -19,7 +19,8 @@ use Rattle.mtl.specs.Lines.{and, or, Rules, lineAt, WellFormed}
 use Rattle.mtl.specs.Rows.{Row}
 use Rattle.mtl.specs.Shortest.{chained, shorter, ofAll, ofAny, written, certificate, Best}
 use Rattle.mtl.proofs.Accept.{rises}
-use Rattle.mtl.proofs.Lists.{AllOf, AnyOf, here, there, all-weaken}
+use Rattle.mtl.specs.Lists.{AllOf, AnyOf, here, there}
+use Rattle.mtl.proofs.Lists.{all-weaken}
 use Rattle.mtl.proofs.Shortest.{best-written, lower, best-kids}
 use Rattle.mtl.proofs.Ways.{found, Before, Sorted, ahead, sorted-guard, ways-sorted, keyed}
 use Rattle.mtl.proofs.Ways.{good as steps-follow}

@@ -15,7 +15,8 @@ use Rattle.mtl.specs.Rows.{Row}
 use Rattle.mtl.proofs.Accept.{ruling-same, ruling-refl, Rises}
 use Rattle.mtl.proofs.Checks.{Allows, allowed, Gives, formed}
 use Rattle.mtl.proofs.Listed.{any-guard, any-each, any-only, all-guard, all-each, all-only}
-use Rattle.mtl.proofs.Lists.{AllOf, AnyOf, here, there, any-left, any-right, all-both, all-weaken}
+use Rattle.mtl.specs.Lists.{AllOf, AnyOf, here, there}
+use Rattle.mtl.proofs.Lists.{any-left, any-right, all-both, all-weaken}
 use Rattle.mtl.proofs.Tests.{fst-of, snd-of}
 
 -- a step that stands before another in the list of steps

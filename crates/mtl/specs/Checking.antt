@@ -72,6 +72,10 @@ nodeQuestions T R s d kids o =
     (18, linesFit (formOr o .shape) kids) ∷
     (19, sameRows (formOr o .kids (firstRow kids)) kids && formOr o .meets (firstRow kids)) ∷ []
 
+-- the same, with the children and the form looked up
+abbrev pub questionsAt : Rules → List Row → List Claim → Node → List Question
+questionsAt T R s d = nodeQuestions T R s d (drop (length s - d .count) s) (formAt (forms R (d .row) (lineAt T (d .line))) (d .rule))
+
 abbrev pub went : Option ℕ → List Claim → Went
 went None s = goes s
 went (Some q) s = stops q

@@ -1,3 +1,4 @@
+pub mod Lists
 pub mod Questions
 pub mod Rows
 pub mod Kinds
@@ -15,8 +16,10 @@ pub mod Reach
 pub mod Forms
 pub mod Bytes
 pub mod Checking
+pub mod Waiting
 pub mod Shortest
 pub mod Chosen
 pub mod Cells
 pub mod Settling
 pub mod Buffers
+pub mod Laws
