@@ -23,3 +23,4 @@ pub mod Cells
 pub mod Settling
 pub mod Buffers
 pub mod Laws
+pub mod Samples

@@ -1,4 +1,5 @@
 // The laws of the subject: the calls of the crates above rest on them.
+ghost use Rattle.mtl.specs.Samples.{AllSamples};
 ghost use Rattle.mtl.specs.Laws.{Sound, OneRuling, Complete, Listed, Least, Filled, Bytes, Exact, Settling};
 
 // What a certificate claims is true in every continuation, and no line is certified both held and broken at one row.
@@ -28,4 +29,9 @@ pub fn shortest_is_written()
     ensures least { λ _. ⌜ Least ⌝ }
     ensures filled { λ _. ⌜ Filled ⌝ }
     ensures settling { λ _. ⌜ Settling ⌝ }
+{}
+
+// The worked examples come out as they should: rulings, sizes, bytes, and Check's answers.
+pub fn samples_hold()
+    ensures { λ _. ⌜ AllSamples ⌝ }
 {}
