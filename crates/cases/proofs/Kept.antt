@@ -41,14 +41,14 @@ rising-push R x up h i j le lt =
     elim (decLt j (length R)) [
       | yes in-R ↦ subst₂ (λ a b. a .time ≤ b .time) (sym (before i (omega arith))) (sym (before j in-R)) (up i j le in-R)
       | no out ↦
-        let e : length R ≡ j = omega arith in
-        let last : rowAt (R ++ x ∷ []) j ≡ x = ap (λ m. rowAt (R ++ x ∷ []) m) (sym e) ∙ getD-append-seam R x [] blank in
-        elim (decLt i (length R)) [
-          | yes lo ↦
-            let m = up i (length R - 1) (omega arith) (omega arith) in
-            subst₂ (λ a b. a .time ≤ b .time) (sym (before i lo)) (sym last) (omega arith)
-          | no hi ↦ let k : i ≡ j = omega arith in subst (λ m. timeAt (R ++ x ∷ []) m ≤ timeAt (R ++ x ∷ []) j) (sym k) (le-refl _)
-        ]
+          let e : length R ≡ j = omega arith in
+          let last : rowAt (R ++ x ∷ []) j ≡ x = ap (λ m. rowAt (R ++ x ∷ []) m) (sym e) ∙ getD-append-seam R x [] blank in
+          elim (decLt i (length R)) [
+            | yes lo ↦
+                let m = up i (length R - 1) (omega arith) (omega arith) in
+                subst₂ (λ a b. a .time ≤ b .time) (sym (before i lo)) (sym last) (omega arith)
+            | no hi ↦ let k : i ≡ j = omega arith in subst (λ m. timeAt (R ++ x ∷ []) m ≤ timeAt (R ++ x ∷ []) j) (sym k) (le-refl _)
+          ]
     ]
   where
     before : (k : ℕ) → k < length R → rowAt (R ++ x ∷ []) k ≡ rowAt R k
@@ -72,7 +72,8 @@ pub step-good : (s : State) (e : Event) (t : State) → Step s e t → Good s �
 step-good s e t st g =
     record {
       formed = subst WellFormed (sym (st .same-table)) (g .formed);
-      rising = subst NeverFalls (sym (st .rows)) (rises s e t st (g .rising)) }
+      rising = subst NeverFalls (sym (st .rows)) (rises s e t st (g .rising));
+    }
 
 -- a ruling rests on a certificate
 pub ruling-cert : (s : State) (e : Event) (t : State) → Step s e t → Good s → (c : Claim) → rules e ≡ Some c → Certified (s .table) (s .rows) c
@@ -118,7 +119,8 @@ fewer R more ρ c =
     record {
       begins = λ i h. let l = length-append R more in c .begins i (omega arith) ∙ List·getD-append R more _ i h;
       rises = c .rises;
-      passes = c .passes }
+      passes = c .passes;
+    }
 
 -- a ruling stays true in every continuation of the rows held at the end
 pub gave-true : {s t : State} {es : List Event} → Run s es t → Good s → (c : Claim) → Gave es c → Always (t .table) (t .rows) c

@@ -18,8 +18,8 @@ use Rattle.cases.specs.Law.{Leaves, LastRuled, none-ruled, last-ruled}
 data From (x : Entry) (es : List Event) (n i : ℕ) : Entry → Type 0 where
   stays : AllOf (Leaves n i) es → From x es n i x
   turns :
-    (before : List Event) (e : Event) (after : List Event) (r : Ruling) → before ++ (e ∷ after) ≡ es → rules e ≡ Some (claim n i r) →
-    AllOf (Leaves n i) after → From x es n i (entryOf r)
+      (before : List Event) (e : Event) (after : List Event) (r : Ruling) → before ++ (e ∷ after) ≡ es → rules e ≡ Some (claim n i r) →
+      AllOf (Leaves n i) after → From x es n i (entryOf r)
 
 -- one event: it leaves the entry, or sets it
 data One (e : Event) (n i : ℕ) (x y : Entry) : Type 0 where
@@ -37,7 +37,7 @@ one e book n i y w = go (rules e) refl w
         back a b p = subst (λ x. Yes (eqb a x)) p (eqb-refl a)
 
         at : (a : Bool) → (Yes a → c .line ≡ n) → (c .line ≡ n → Yes a) → (b : Bool) → (Yes b → c .row ≡ i) → (c .row ≡ i → Yes b) →
-          y ≡ cond (a && b) (entryOf (c .ruling)) (book n i) → One e n i (book n i) y
+            y ≡ cond (a && b) (entryOf (c .ruling)) (book n i) → One e n i (book n i) y
         at true p p′ true q q′ w = set (c .ruling) (h ∙ ap Some (λ k. record { line = p tt k; row = q tt k; ruling = c .ruling })) (sym w)
         at true p p′ false q q′ w = left (λ r k. let d : c ≡ claim n i r = cc in q′ (ap (λ (x : Claim). x .row) d)) (sym w)
         at false p p′ b q q′ w = left (λ r k. let d : c ≡ claim n i r = cc in p′ (ap (λ (x : Claim). x .line) d)) (sym w)

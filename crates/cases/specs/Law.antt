@@ -26,8 +26,8 @@ Leaves n i e = (r : Ruling) → rules e ≡ Some (claim n i r) → ⊥
 pub data LastRuled (es : List Event) (n i : ℕ) : Entry → Type 0 where
   none-ruled : AllOf (Leaves n i) es → LastRuled es n i Open
   last-ruled :
-    (before : List Event) (e : Event) (after : List Event) (r : Ruling) → before ++ (e ∷ after) ≡ es → rules e ≡ Some (claim n i r) →
-    AllOf (Leaves n i) after → LastRuled es n i (entryOf r)
+      (before : List Event) (e : Event) (after : List Event) (r : Ruling) → before ++ (e ∷ after) ≡ es → rules e ≡ Some (claim n i r) →
+      AllOf (Leaves n i) after → LastRuled es n i (entryOf r)
 
 -- one of the events gave this ruling
 abbrev pub Gave : List Event → Claim → Type 0
@@ -54,8 +54,8 @@ pub record Lawful (T : Rules) (R : List Row) (es : List Event) : Type 0 where
   -- a line in reach; where it accepts, a ruling whose written certificate Check accepts and than which no certificate that Check accepts
   -- for the same line, row and ruling has fewer nodes
   pub settled :
-    (before : List Event) (n i : ℕ) (ls : Lengths) (a : Result Settled ℕ) (out : List ℕ) → Happened es before (Ruled n i ls a out) →
-    SettleSays T (rowsHeld R before) n i ls a out
+      (before : List Event) (n i : ℕ) (ls : Lengths) (a : Result Settled ℕ) (out : List ℕ) → Happened es before (Ruled n i ls a out) →
+      SettleSays T (rowsHeld R before) n i ls a out
 
 -- what Open makes: a table in order, rows whose times never fall, and a book that shows open everywhere
 pub record Opened (o : State) : Type 0 where

@@ -1,0 +1,64 @@
+// The calls of a case.
+ghost use mathlib.Core.Path.{_≡_};
+ghost use Rattle.logs.specs.Answers.{addTold};
+ghost use Rattle.cases.specs.Runs.{Added, Looked};
+ghost use Rattle.cases.specs.Law.{Law};
+ghost use Rattle.cases.specs.View.{stateOf, Does, showTold};
+use crate::book::Book;
+use crate::case::Case;
+use crate::case::ShowFault;
+use crate::entry::Entry;
+use logs::fault::AddFault;
+use logs::traits::Growing;
+use logs::traits::Readable;
+use mtl::row::Row;
+use mtl::table::Table;
+
+impl<L: Growing> Case<L> {
+    // Opens a case: its book shows open everywhere, and every run of calls from here on keeps the law.
+    pub fn open(table: Table, log: L) -> Case<L>
+        ensures table { λ r. ⌜ r .table ≡ table ⌝ }
+        ensures log { λ r. ⌜ r .log ≡ log ⌝ }
+        ensures lawful { λ r. ⌜ Law (stateOf (L·Growing .room) (L·Readable .rows) r) ⌝ }
+    {
+        Case {
+            table,
+            log,
+            book: Book::new(),
+        }
+    }
+
+    // The case's table.
+    pub fn table(&self) -> &Table
+        ensures { λ r. ⌜ now r ≡ now (self .entry) .table ⌝ }
+    {
+        &self.table
+    }
+
+    // The case's log.
+    pub fn log(&self) -> &L
+        ensures { λ r. ⌜ now r ≡ now (self .entry) .log ⌝ }
+    {
+        &self.log
+    }
+
+    // Adds a row to the log, whose answer is passed on whole.
+    pub fn add(&mut self, row: Row) -> Result<(), AddFault>
+        ensures { λ r. ⌜ Does (L·Growing .room) (L·Readable .rows) (now (self .entry)) (Added row (addTold r)) (now (self .exit)) ⌝ }
+    {
+        self.log.add(row)
+    }
+
+    // What the book shows for a line at a row.
+    pub fn show(&self, line: usize, row: usize) -> Result<Entry, ShowFault>
+        ensures { λ r. ⌜ Does (L·Growing .room) (L·Readable .rows) (now (self .entry)) (Looked line row (showTold r)) (now (self .entry)) ⌝ }
+    {
+        if line >= self.table.len() {
+            return Err(ShowFault::NoSuchLine);
+        }
+        if row >= self.log.len() {
+            return Err(ShowFault::NoSuchRow);
+        }
+        Ok(self.book.at(line, row))
+    }
+}
