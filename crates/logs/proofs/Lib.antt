@@ -1,1 +1,3 @@
+pub mod RowLists
 pub mod Said
+pub mod Masks

@@ -1,2 +1,4 @@
 pub mod LogLaws
 pub mod Answers
+pub mod RowLists
+pub mod Masks
