@@ -1,3 +1,6 @@
 pub mod RowLists
 pub mod Said
 pub mod Masks
+pub mod Flips
+pub mod FlipWords
+pub mod ChangedRows

@@ -2,3 +2,5 @@ pub mod LogLaws
 pub mod Answers
 pub mod RowLists
 pub mod Masks
+pub mod ChangeRoom
+pub mod Flips
