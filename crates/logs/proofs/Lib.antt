@@ -4,3 +4,4 @@ pub mod Masks
 pub mod Flips
 pub mod FlipWords
 pub mod ChangedRows
+pub mod Sheets

@@ -4,3 +4,5 @@ pub mod RowLists
 pub mod Masks
 pub mod ChangeRoom
 pub mod Flips
+pub mod Sheets
+pub mod SheetAnswers
