@@ -5,3 +5,4 @@ pub mod Flips
 pub mod FlipWords
 pub mod ChangedRows
 pub mod Sheets
+pub mod AnyLogs

@@ -6,3 +6,4 @@ pub mod ChangeRoom
 pub mod Flips
 pub mod Sheets
 pub mod SheetAnswers
+pub mod AnyLogs
