@@ -12,7 +12,7 @@ use Rattle.std.specs.declared.result.Result.the-variants.{Ok, Err}
 use Rattle.mtl.specs.Kinds.{kindAt, hasRight, hasWindow}
 use Rattle.mtl.specs.declared.line.Kind.{Kind}
 use Rattle.texts.specs.Numbers.{numberAt}
-use Rattle.texts.specs.Cuts.{Said, word, dash, lineEnd, said, saidBy}
+use Rattle.texts.specs.Tokens.{Said, word, dash, lineEnd, said, saidBy}
 use Rattle.texts.specs.declared.fault.TextFault.{TextFault}
 use Rattle.texts.specs.declared.fault.TextFault.the-variants.{WrongForm}
 use Rattle.texts.specs.declared.entry.Entry.{Entry}

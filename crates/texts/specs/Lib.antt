@@ -1,7 +1,8 @@
 pub mod Faults
 pub mod States
 pub mod Cuts
-pub mod Steps
+pub mod Tokens
+pub mod Lexing
 pub mod Numbers
 pub mod Lines
 pub mod Bytes

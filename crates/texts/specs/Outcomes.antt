@@ -1,14 +1,13 @@
 -- What the reading of a text ends with, and the reading line by line.
-use mathlib.Core.Bool.{Bool, true, false, cond}
 use mathlib.Core.List.{List, [], _∷_}
 use Prim.Native.Nat.{ℕ, _+_}
-use lib.Dec.{leb}
-use lib.ListN.{length}
 use Rattle.std.specs.declared.option.Option.{Option}
 use Rattle.std.specs.declared.option.Option.the-variants.{Some, None}
-use Rattle.texts.specs.Bytes.{wrongLine}
-use Rattle.texts.specs.Cuts.{linesOf, fieldsOf}
-use Rattle.texts.specs.Faults.{Told, inText}
+use Rattle.std.specs.declared.result.Result.{Result}
+use Rattle.std.specs.declared.result.Result.the-variants.{Ok, Err}
+use Rattle.texts.specs.Cuts.{fieldsOf}
+use Rattle.texts.specs.Faults.{Told}
+use Rattle.texts.specs.Lines.{Parts, partsOf}
 
 -- what was entered, and the refusal if there is one
 pub record Outcome (X : Type 0) : Type 0 where
@@ -30,10 +29,10 @@ abbrev pub readLines : {X : Type 0} → (ℕ → List X → List (List ℕ) → 
 readLines read n [] es = accepts es
 readLines read n (l ∷ ls) es = goesOn (read n es (fieldsOf l)) (λ more. readLines read (n + 1) ls more)
 
-abbrev pub linesIf : {X : Type 0} → Option ℕ → (List (List ℕ) → List X → Outcome X) → List ℕ → List X → Outcome X
-linesIf (Some line) read text es = refuses es (inText 28 line 0)
-linesIf None read text es = read (linesOf text) es
+abbrev pub readParts : {X : Type 0} → (List ℕ → List (List ℕ) → List X → Outcome X) → Result Parts Told → List X → Outcome X
+readParts read (Ok p) es = read (p .names) (p .values) es
+readParts read (Err t) es = refuses es t
 
--- a text of at most 16384 bytes, all of them allowed, is read by its lines
-abbrev pub readText : {X : Type 0} → (List (List ℕ) → List X → Outcome X) → List ℕ → List X → Outcome X
-readText read text es = cond (leb (length text) 16384) (linesIf (wrongLine text) read text es) (refuses es (inText 27 0 0))
+-- a text is read by its names line and its lines of values
+abbrev pub readText : {X : Type 0} → (List ℕ → List (List ℕ) → List X → Outcome X) → List ℕ → List X → Outcome X
+readText read text es = readParts read (partsOf text) es

@@ -36,9 +36,8 @@ abbrev pub readRule : ℕ → List Line → List (List ℕ) → Outcome Line
 readRule n T fs = cond (shaped 6 fs) (entersIf n T (formed n (length T) fs)) (refuses T (inText 30 n 0))
 
 -- the line of names, then lines of values
-abbrev pub readNamed : List (List ℕ) → List Line → Outcome Line
-readNamed [] T = refuses T (inText 29 1 0)
-readNamed (l ∷ ls) T = cond (sameBytes l (codes "line kind from to left right")) (readLines readRule 2 ls T) (refuses T (inText 29 1 0))
+abbrev pub readNamed : List ℕ → List (List ℕ) → List Line → Outcome Line
+readNamed names ls T = cond (sameBytes names (codes "line kind from to left right")) (readLines readRule 2 ls T) (refuses T (inText 29 1 0))
 
 abbrev pub readRules : List ℕ → List Line → Outcome Line
 readRules = readText readNamed

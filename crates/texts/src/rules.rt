@@ -12,7 +12,7 @@ use crate::fault::TextFault;
 use crate::forms::entry_of;
 use crate::forms::six_fields;
 use crate::lines::first_line;
-use crate::scan::wrong_line;
+use crate::lines::names_line;
 use crate::shape::has_fields;
 use mtl::draft::Draft;
 
@@ -45,15 +45,7 @@ pub fn read_rules(text: &[u8], draft: &mut Draft) -> Result<(), TextFault>
     ensures answer { λ r. ⌜ toldBy r ≡ readRules (now (text .entry)) (entered (now (draft .entry))) .refused ⌝ }
     ensures lines { λ _. ⌜ entered (now (draft .exit)) ≡ readRules (now (text .entry)) (entered (now (draft .entry))) .entries ⌝ }
 {
-    if text.len() > 16384 {
-        return Err(TextFault::TooLong);
-    }
-    if let Some(line) = wrong_line(text) {
-        return Err(TextFault::WrongByte { line });
-    }
-    let Some(names) = first_line(text) else {
-        return Err(TextFault::WrongNames);
-    };
+    let names = names_line(text)?;
     if !names_fields(names.line) {
         return Err(TextFault::WrongNames);
     }

@@ -2,8 +2,9 @@
 ghost use mathlib.Core.Path.{_≡_};
 ghost use Prim.Native.Nat.{ℕ, _<_, _≤_};
 ghost use lib.ListN.{length, getD};
-ghost use Rattle.texts.specs.Cuts.{left, fieldsOf, said, Gave, Open, CutOff};
-ghost use Rattle.texts.specs.Steps.{Stepped};
+ghost use Rattle.texts.specs.Lexing.{left, Gave, Open, CutOff, Stepped};
+ghost use Rattle.texts.specs.Cuts.{fieldsOf};
+ghost use Rattle.texts.specs.Tokens.{said};
 use crate::state::State;
 use crate::token::Lexer;
 use crate::token::Placed;

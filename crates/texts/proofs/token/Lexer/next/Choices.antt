@@ -2,7 +2,7 @@ use Prim.Native.Nat.{_-_}
 use mathlib.Core.Path.{_≡_}
 use lib.ListN.{length}
 use denote.Ref.{now}
-use Rattle.texts.specs.Cuts.{left}
+use Rattle.texts.specs.Lexing.{left}
 use Rattle.texts.proofs.token.Lexer.next.Given as given
 
 abbrev pub Inv-loop-self : given.InvT-loop-self

@@ -5,7 +5,7 @@ use Prim.Native.Nat.{_≤_, _<_, _+_}
 use native.Mathlib.Omega.{arith}
 use lib.ListN.{length, getD}
 use Rattle.texts.specs.States.{agrees, isDash, isWord, isNone}
-use Rattle.texts.specs.Cuts.{Open, leftAt}
+use Rattle.texts.specs.Lexing.{Open, leftAt}
 use Rattle.texts.specs.declared.state.State.{State}
 use Rattle.texts.specs.declared.state.State.the-variants.{Fresh, Inside, Dashed}
 use Rattle.texts.proofs.Cutting.{sofar, grows, at-byte, now-dashed, now-inside, past-open, Ordinary, when-fresh, when-inside, when-dashed}
