@@ -1,7 +1,7 @@
 -- The reading of a rules text: its answer, and the lines afterwards.
-use mathlib.Core.Bool.{Bool, true, false, cond}
-use mathlib.Core.List.{List, [], _∷_}
-use Prim.Native.Nat.{ℕ, _+_}
+use mathlib.Core.Bool.{cond}
+use mathlib.Core.List.{List}
+use Prim.Native.Nat.{ℕ}
 use lib.Chars.{codes}
 use lib.ListN.{length}
 use Rattle.std.specs.shelf.Text.{sameBytes}

@@ -1,9 +1,7 @@
 // The fields of a rules line, each in its form.
 ghost use mathlib.Core.Path.{_≡_};
 ghost use mathlib.Core.Bool.{true};
-ghost use mathlib.Core.List.{List};
-ghost use Prim.Native.Nat.{ℕ};
-ghost use Rattle.mtl.specs.Kinds.{kindAt, hasRight, hasWindow};
+ghost use Rattle.mtl.specs.Kinds.{hasRight, hasWindow};
 ghost use Rattle.texts.specs.Cuts.{shaped, fieldsOf};
 ghost use Rattle.texts.specs.Forms.{usedIn, endIn, nextIn, letterIn, inForm, spotOf, faultAt, formedBy, Six};
 use crate::entry::Entry;

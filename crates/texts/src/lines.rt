@@ -1,8 +1,4 @@
 // The lines of a text.
-ghost use mathlib.Core.Path.{_≡_};
-ghost use mathlib.Core.List.{List, [], _∷_};
-ghost use Prim.Native.Nat.{ℕ, _<_, _≤_};
-ghost use lib.ListN.{length};
 ghost use Rattle.texts.specs.Lines.{CutsFirst, Begins};
 use crate::fault::TextFault;
 use crate::first::FirstLine;

@@ -1,8 +1,6 @@
 // The rules text.
 ghost use mathlib.Core.Path.{_≡_};
-ghost use Prim.Native.Nat.{ℕ, _≤_};
 ghost use lib.Chars.{codes};
-ghost use lib.ListN.{length};
 ghost use Rattle.std.specs.shelf.Text.{sameBytes};
 ghost use Rattle.mtl.specs.Tables.{entered};
 ghost use Rattle.texts.specs.Cuts.{fieldsOf};

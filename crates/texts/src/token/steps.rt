@@ -1,6 +1,6 @@
 // The lexer of a line, one byte at a time.
 ghost use mathlib.Core.Path.{_≡_};
-ghost use Prim.Native.Nat.{ℕ, _<_, _≤_};
+ghost use Prim.Native.Nat.{_<_, _≤_};
 ghost use lib.ListN.{length, getD};
 ghost use Rattle.texts.specs.Lexing.{left, Gave, Open, CutOff, Stepped};
 ghost use Rattle.texts.specs.Cuts.{fieldsOf};

@@ -1,6 +1,6 @@
 use mathlib.Core.Path.{_≡_}
-use Prim.Native.Nat.{ℕ, _+_, _-_, _≤_, _<_}
-use lib.ListN.{take, drop, getD}
+use Prim.Native.Nat.{_+_, _-_, _≤_, _<_}
+use lib.ListN.{drop, getD}
 use Rattle.std.specs.shelf.Lists.{leading}
 use Rattle.texts.specs.Bytes.{allowed, lineAt}
 use Rattle.texts.proofs.scan.wrong_line.Given as given

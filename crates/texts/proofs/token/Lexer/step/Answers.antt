@@ -1,13 +1,12 @@
 use mathlib.Core.Path.{_≡_, refl, sym, ap, subst, _∙_}
 use mathlib.Core.Bool.{true}
-use mathlib.Core.List.{_∷_, [], _++_}
-use Prim.Native.Nat.{_≤_, _<_, _+_}
+use Prim.Native.Nat.{_<_}
 use native.Mathlib.Omega.{arith}
 use lib.ListN.{length, getD}
 use Rattle.texts.specs.States.{agrees, isDash, isWord, isNone}
-use Rattle.texts.specs.Lexing.{Open, leftAt}
+use Rattle.texts.specs.Lexing.{Open}
 use Rattle.texts.specs.declared.state.State.{State}
-use Rattle.texts.specs.declared.state.State.the-variants.{Fresh, Inside, Dashed}
+use Rattle.texts.specs.declared.state.State.the-variants.{Inside, Dashed}
 use Rattle.texts.proofs.Cutting.{sofar, grows, at-byte, now-dashed, now-inside, past-open, Ordinary, when-fresh, when-inside, when-dashed}
 use Rattle.texts.proofs.token.Lexer.step.Needs as need
 use Rattle.texts.proofs.token.Lexer.step.Needs.{in-rest·by·in-Dashed··in-rest·, in-rest·by·in-Fresh··in-rest·, in-rest·by·in-Inside··in-rest·, In-rest, at·ghost-self-in-rest, at·returns-in-rest}
