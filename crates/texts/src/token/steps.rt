@@ -3,7 +3,7 @@ ghost use mathlib.Core.Path.{_≡_};
 ghost use Prim.Native.Nat.{_<_, _≤_};
 ghost use lib.ListN.{length, getD};
 ghost use Rattle.texts.specs.Lexing.{left, Gave, Open, CutOff, Stepped};
-ghost use Rattle.texts.specs.Cuts.{fieldsOf};
+ghost use Rattle.texts.specs.Cuts.{fieldsOf, Whole};
 ghost use Rattle.texts.specs.Tokens.{said};
 use crate::state::State;
 use crate::token::Lexer;
@@ -11,9 +11,11 @@ use crate::token::Placed;
 use crate::token::Token;
 
 impl<'a> Lexer<'a> {
+    // A lexer before the first field of a line, which is given without its end; `line` is its number.
     pub fn new(text: &'a [u8], line: usize) -> Lexer<'a>
         ensures left { λ r. ⌜ left r ≡ fieldsOf (now (text .entry)) ⌝ }
         ensures place { λ r. ⌜ (r .line ≡ line) × (r .field ≡ 1) ⌝ }
+        ensures whole { λ _. ⌜ Whole (now (text .entry)) ⌝ }
     {
         Lexer {
             text,
