@@ -4,13 +4,14 @@ use mathlib.Core.Bool.{true, false, _&&_}
 use mathlib.Core.List.{List, [], _∷_}
 use Prim.Native.Nat.{ℕ, _+_, _-_, _*_, _≤_, _<_}
 use native.Mathlib.Omega.{arith}
+use lib.Dec.{eqb}
 use lib.ListN.{length, getD, drop}
 use Rattle.std.specs.Text.{asciiDigit}
 use Rattle.std.specs.shelf.Text.{allDigits}
 use Rattle.std.specs.declared.option.Option.the-variants.{Some, None}
 use Rattle.std.proofs.shelf.Lists.{at-drop-more}
 use Rattle.std.proofs.shelf.Ways.{tells}
-use Rattle.texts.specs.Numbers.{readOn, numberTo}
+use Rattle.texts.specs.Numbers.{readOn, leadingZero, numberTo}
 
 pub refuse-digits : (most : ℕ) (bs : List ℕ) → allDigits bs ≡ false → None ≡ numberTo most bs
 refuse-digits most bs e = grind (arith, tells)
@@ -18,7 +19,7 @@ refuse-digits most bs e = grind (arith, tells)
 pub refuse-large : (most : ℕ) (bs : List ℕ) → most < readOn 0 bs → None ≡ numberTo most bs
 refuse-large most bs e = grind (arith, tells)
 
-pub accept : (most : ℕ) (bs : List ℕ) → allDigits bs ≡ true → 0 < length bs → (1 < length bs → getD bs 0 0 ≡ 48 → ⊥) → readOn 0 bs ≤ most → Some (readOn 0 bs) ≡ numberTo most bs
+pub accept : (most : ℕ) (bs : List ℕ) → allDigits bs ≡ true → eqb (length bs) 0 ≡ false → leadingZero bs ≡ false → readOn 0 bs ≤ most → Some (readOn 0 bs) ≡ numberTo most bs
 accept most bs d some zero small = grind (arith, tells)
 
 readOn-ge : (n : ℕ) (bs : List ℕ) → n ≤ readOn n bs

@@ -1,16 +1,14 @@
 use mathlib.Core.Path.{_≡_, sym, ap, _∙_}
 use mathlib.Core.Bool.{_&&_}
-use Prim.Native.Nat.{_+_, _-_, _*_, _<_, _≤_}
+use Prim.Native.Nat.{_+_, _-_, _*_, _≤_}
 use native.Mathlib.Omega.{arith}
-use lib.ListN.{length, getD, drop}
-use borrow.Author.Tests.{false-eqb}
+use lib.ListN.{getD, drop}
 use Rattle.std.specs.declared.option.Option.the-variants.{Some}
 use Rattle.std.specs.shelf.Text.{allDigits}
 use Rattle.std.proofs.shelf.Lists.{at-drop-all}
 use Rattle.texts.specs.Numbers.{readOn}
 use Rattle.texts.proofs.Numerals.{refuse-large, wrong-digit, too-large, next-value, next-digits, accept}
 use Rattle.texts.proofs.number.number_to.Needs as need
-use Rattle.texts.proofs.number.number_to.Needs.{else-field-gt1·by·then-field-gt1·else-field-eq48, else-field-gt1·by·else-field-gt1}
 
 pub returns-then-not-is-ascii-digit : need.returns-then-not-is-ascii-digit
 returns-then-not-is-ascii-digit c =
@@ -47,12 +45,7 @@ returns-then-n-most c =
     let end = c .loop-b-test .left in
     let value : c .loop-b .n ≡ readOn 0 bs = sym (at-drop-all (readOn (c .loop-b .n)) bs _ end) ∙ c .loop-b .inv .0 in
     let digits = sym (c .loop-b .inv .1) ∙ at-drop-all allDigits bs _ end in
-    let some = c .if-is-empty .ensures tt in
-    let zero : 1 < length bs → getD bs 0 0 ≡ 48 → ⊥ = elim (c .else-field-gt1 .came) [
-      | else-field-gt1·by·then-field-gt1·else-field-eq48 w ↦ λ long is. w .if-field-eq48 .left is
-      | else-field-gt1·by·else-field-gt1 w ↦ λ long is. omega arith
-    ] in
-    ap Some value ∙ accept (c .args .most) bs digits (omega (arith, false-eqb (length bs) 0 some)) zero (omega arith)
+    ap Some value ∙ accept (c .args .most) bs digits (sym (c .if-is-empty .ensures tt)) (sym (c .if-has-leading-zero .ensures tt)) (omega arith)
 
 pub returns-else-n-most : need.returns-else-n-most
 returns-else-n-most c =
