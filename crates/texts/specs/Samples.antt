@@ -6,7 +6,7 @@ use lib.Chars.{codes}
 use lib.Dec.{ltb}
 use lib.ListN.{length}
 use Prim.Native.Nat.{ℕ}
-use Rattle.std.specs.declared.option.Option.the-variants.{Some, None}
+use Rattle.std.specs.declared.option.Option.the-variants.{Some}
 use Rattle.mtl.specs.Rows.{row}
 use Rattle.mtl.specs.declared.line.Line.{Line}
 use Rattle.mtl.specs.declared.line.Line.the-variants.{Mark, Since}
