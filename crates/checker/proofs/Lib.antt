@@ -1,0 +1,2 @@
+pub mod PastEnd
+pub mod Walks

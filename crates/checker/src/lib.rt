@@ -1,0 +1,5 @@
+//! The checker of certificates: from a certificate's bytes to the claim that it proves, or to the first question answered no.
+mod children;
+pub mod fault;
+mod reading;
+mod rule;
