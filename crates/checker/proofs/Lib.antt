@@ -1,2 +1,5 @@
 pub mod PastEnd
 pub mod Walks
+pub mod Alike
+pub mod Coded
+pub mod OwnForms

@@ -3,3 +3,4 @@ pub mod Parts
 pub mod Rule
 pub mod Children
 pub mod Placed
+pub mod Stepped

@@ -1,5 +1,6 @@
 //! The checker of certificates: from a certificate's bytes to the claim that it proves, or to the first question answered no.
 mod children;
 pub mod fault;
+mod node;
 mod reading;
 mod rule;
