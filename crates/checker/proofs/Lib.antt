@@ -3,3 +3,4 @@ pub mod Walks
 pub mod Alike
 pub mod Coded
 pub mod OwnForms
+pub mod Judged

@@ -121,15 +121,15 @@ module _ (R : List Row) (i n : ℕ) where
   unfolding forms
   own-since w l r = (
     λ e. at e (led-form R i (partsOf (since w l r)) 20 held refl refl r l held (λ j. range (j + 1) i) (λ j. chosen R Before (wide 0) i (j + 1) (i + 1)) _ 0 (suc i) (λ c. refl) (λ cs. refl)
-    (λ j. range-end (j + 1) i ∙ any-time R Before i (j + 1) (i + 1)) (λ c cs. refl)),
+        (λ j. range-end (j + 1) i ∙ any-time R Before i (j + 1) (i + 1)) (λ c cs. refl)),
     (
       λ e. at e (led-form R i (partsOf (since w l r)) 21 broken refl refl l r broken (λ j. keep (λ k. leb (w .from) (timeAt R i - timeAt R k)) (range j i))
-      (λ j. chosen R Before (wide (w .from)) i j (i + 1)) _ 1 i (λ c. refl) (λ cs. refl)
-      (λ j. ap (keep (λ k. leb (w .from) (timeAt R i - timeAt R k))) (range-end j i) ∙ from-on R Before (w .from) i j (i + 1))
-      (λ c cs. ap (λ t. rowsAre (chosen R Before (wide (w .from)) i (c .row) (i + 1)) cs && t) (and-assoc (leb 1 (c .row)) (leb (c .row) i) _))),
+          (λ j. chosen R Before (wide (w .from)) i j (i + 1)) _ 1 i (λ c. refl) (λ cs. refl)
+          (λ j. ap (keep (λ k. leb (w .from) (timeAt R i - timeAt R k))) (range-end j i) ∙ from-on R Before (w .from) i j (i + 1))
+          (λ c cs. ap (λ t. rowsAre (chosen R Before (wide (w .from)) i (c .row) (i + 1)) cs && t) (and-assoc (leb 1 (c .row)) (leb (c .row) i) _))),
       (
         λ e. at e (any-form R i (partsOf (since w l r)) 22 broken refl refl r broken _ (chosen R Before w i 0 (i + 1)) _ (λ c. refl) (λ cs. refl)
-        (ap (keep (λ k. inside w (timeAt R i - timeAt R k))) (range-end 0 i)) (λ cs. refl)),
+            (ap (keep (λ k. inside w (timeAt R i - timeAt R k))) (range-end 0 i)) (λ cs. refl)),
         (λ e. at e (no-child R i (partsOf (since w l r)) 23 broken refl refl _ (λ c. refl) (λ cs. refl) (λ cs. refl)), tt),
       ),
     ),
@@ -139,13 +139,13 @@ module _ (R : List Row) (i n : ℕ) where
   unfolding forms
   own-until w l r = (
     λ e. at e (led-form R i (partsOf (until w l r)) 24 held refl refl r l held (λ j. run i (j - i)) (λ j. chosen R After (wide 0) i i j) _ i (length R - i) (λ c. refl) (λ cs. refl)
-    (λ j. any-time R After i i j)
-    (λ c cs. ap (λ t. rowsAre (chosen R After (wide 0) i i (c .row)) cs && t) (and-assoc (leb i (c .row)) (ltb (c .row) (length R)) _))),
+        (λ j. any-time R After i i j)
+        (λ c cs. ap (λ t. rowsAre (chosen R After (wide 0) i i (c .row)) cs && t) (and-assoc (leb i (c .row)) (ltb (c .row) (length R)) _))),
     (
       λ e. at e (led-form R i (partsOf (until w l r)) 25 broken refl refl l r broken (λ j. keep (λ k. leb (w .from) (timeAt R k - timeAt R i)) (range i j))
-      (λ j. chosen R After (wide (w .from)) i i (j + 1)) _ i (length R - i) (λ c. refl) (λ cs. refl)
-      (λ j. ap (keep (λ k. leb (w .from) (timeAt R k - timeAt R i))) (range-end i j) ∙ from-on R After (w .from) i i (j + 1))
-      (λ c cs. ap (λ t. rowsAre (chosen R After (wide (w .from)) i i (c .row + 1)) cs && t) (and-assoc (leb i (c .row)) (ltb (c .row) (length R)) _))),
+          (λ j. chosen R After (wide (w .from)) i i (j + 1)) _ i (length R - i) (λ c. refl) (λ cs. refl)
+          (λ j. ap (keep (λ k. leb (w .from) (timeAt R k - timeAt R i))) (range-end i j) ∙ from-on R After (w .from) i i (j + 1))
+          (λ c cs. ap (λ t. rowsAre (chosen R After (wide (w .from)) i i (c .row + 1)) cs && t) (and-assoc (leb i (c .row)) (ltb (c .row) (length R)) _))),
       (λ e. at e (any-form R i (partsOf (until w l r)) 26 broken refl refl r broken _ (chosen R After w i i (length R)) _ (λ c. refl) (λ cs. refl) refl (λ cs. refl)), tt),
     ),
   )

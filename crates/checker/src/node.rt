@@ -20,7 +20,13 @@ use mtl::ruling::Ruling;
 use mtl::table::Table;
 
 // What node number at rules, taking its children off the end of those waiting; or the first question that it fails.
-pub(crate) fn judge<L: Readable>(table: &Table, log: &L, node: Node, at: usize, waiting: &[Claim]) -> Result<Ruling, CheckFault>
+pub(crate) fn judge<L: Readable>(
+    table: &Table,
+    log: &L,
+    node: Node,
+    at: usize,
+    waiting: &[Claim],
+) -> Result<Ruling, CheckFault>
     ensures step { λ r. ⌜ stepped (now (waiting .entry)) node r ≡ nodeStep (linesOf (now (table .entry))) (L·Readable .rows (now (log .entry))) (now (waiting .entry)) node ⌝ }
     ensures place { λ r. ⌜ FaultAt at r ⌝ }
 {
@@ -28,7 +34,10 @@ pub(crate) fn judge<L: Readable>(table: &Table, log: &L, node: Node, at: usize, 
         return Err(CheckFault::NoSuchLine { node: at });
     };
     let parts = parts_of(line);
-    let interval = Interval { window: parts.window, gap: gap(log, parts.kind, node.row) };
+    let interval = Interval {
+        window: parts.window,
+        gap: gap(log, parts.kind, node.row),
+    };
     let standing = stand(node.rule, parts.kind, node.count, interval);
     if standing == Standing::OtherKind {
         return Err(CheckFault::RuleOfOtherKind { node: at });
@@ -44,7 +53,9 @@ pub(crate) fn judge<L: Readable>(table: &Table, log: &L, node: Node, at: usize, 
     if !lines_fit(node.rule, parts.left, parts.right, children) {
         return Err(CheckFault::WrongChild { node: at });
     }
-    if standing == Standing::OutsideInterval || !rows_fit(log, node.rule, parts, node.row, children) {
+    if standing == Standing::OutsideInterval
+        || !rows_fit(log, node.rule, parts, node.row, children)
+    {
         return Err(CheckFault::ConditionNotMet { node: at });
     }
     Ok(ruling_of(node.rule))
