@@ -31,23 +31,23 @@ use Rattle.checker.proofs.Coded.{intervalOf, Coded}
 use Rattle.checker.proofs.OwnForms.{Agrees, agreed}
 
 -- a node's step by the answers to its six questions
-abbrev bySix : Bool → Bool → Bool → Bool → Bool → Bool → List Claim → Went
+abbrev pub bySix : Bool → Bool → Bool → Bool → Bool → Bool → List Claim → Went
 bySix a b c d e f t = went (firstNo ((14, a) ∷ (15, b) ∷ (16, c) ∷ (17, d) ∷ (18, e) ∷ (19, f) ∷ [])) t
 
 -- the children that a node takes, questions 17 to 19 of its form, and what is waiting after it
-abbrev kidsOf : List Claim → Node → List Claim
+abbrev pub kidsOf : List Claim → Node → List Claim
 kidsOf s d = drop (length s - d .count) s
 
-abbrev waits : List Claim → Node → Form → Bool
+abbrev pub waits : List Claim → Node → Form → Bool
 waits s d f = countFits (f .shape) (d .count) && leb (d .count) (length s)
 
-abbrev shows : List Claim → Node → Form → Bool
+abbrev pub shows : List Claim → Node → Form → Bool
 shows s d f = linesFit (f .shape) (kidsOf s d)
 
-abbrev met : List Claim → Node → Form → Bool
+abbrev pub met : List Claim → Node → Form → Bool
 met s d f = sameRows (f .kids (firstRow (kidsOf s d))) (kidsOf s d) && f .meets (firstRow (kidsOf s d))
 
-abbrev after : List Claim → Node → Ruling → List Claim
+abbrev pub after : List Claim → Node → Ruling → List Claim
 after s d r = take (length s - d .count) s ++ (claim (d .line) (d .row) r ∷ [])
 
 -- what a standing says of kind, count and interval

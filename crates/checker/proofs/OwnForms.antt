@@ -24,7 +24,7 @@ use Rattle.mtl.specs.Forms.{exactly, first-then, any-of, Form, form, fixed, for
 use Rattle.mtl.specs.Ranges.{run, range, keep}
 use Rattle.mtl.specs.Rows.{timeAt}
 use Rattle.mtl.specs.Windows.{inside, upTo, past}
-use Rattle.mtl.proofs.Lists.{AllOf}
+use Rattle.mtl.specs.Lists.{AllOf}
 use Rattle.checker.specs.declared.reading.Parts.{Parts}
 use Rattle.checker.specs.declared.reading.Side.the-variants.{Before, After}
 use Rattle.checker.specs.declared.rule.Interval.{Interval}

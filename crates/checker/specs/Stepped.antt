@@ -1,5 +1,5 @@
 -- What a node's judgement means for the waiting subtrees.
-use Prim.Native.Nat.{ℕ, _-_}
+use Prim.Native.Nat.{ℕ, _-_, _≤_}
 use mathlib.Core.Path.{_≡_}
 use mathlib.Core.List.{List, [], _∷_, _++_}
 use lib.ListN.{length, take}
@@ -18,7 +18,7 @@ abbrev pub stepped : List Claim → Node → Result Ruling CheckFault → Went
 stepped s d (Ok r) = goes (take (length s - d .count) s ++ (claim (d .line) (d .row) r ∷ []))
 stepped s d (Err f) = stops (faultTold f .0)
 
--- a fault tells this node
-abbrev pub FaultAt : ℕ → Result Ruling CheckFault → Type 0
-FaultAt at (Ok r) = Unit {0}
-FaultAt at (Err f) = faultTold f .1 ≡ at
+-- node number at: a fault tells it, and what is ruled has found its children waiting
+abbrev pub AtNode : ℕ → List Claim → Node → Result Ruling CheckFault → Type 0
+AtNode at s d (Ok r) = d .count ≤ length s
+AtNode at s d (Err f) = faultTold f .1 ≡ at

@@ -1,10 +1,18 @@
 -- What Check's answer tells: the claim, or the number of the first question that is answered no, and the node.
-use Prim.Native.Nat.{ℕ}
+use Prim.Native.Nat.{ℕ, _≤_}
+use mathlib.Core.Path.{_≡_}
+use mathlib.Core.Logic.{_↔_}
+use mathlib.Core.List.{List}
 use mathlib.Core.Bool.{Bool, true, false}
 use lib.Dec.{ltb}
+use lib.ListN.{length}
 use Rattle.std.specs.declared.result.Result.{Result}
 use Rattle.std.specs.declared.result.Result.the-variants.{Ok, Err}
 use Rattle.mtl.specs.declared.ruling.Claim.{Claim}
+use Rattle.mtl.specs.declared.row.Row.{Row}
+use Rattle.mtl.specs.Bytes.{nodes}
+use Rattle.mtl.specs.Laws.{IsCertificate}
+use Rattle.mtl.specs.Lines.{Rules}
 use Rattle.mtl.specs.Checking.{Verdict, accepted, refused}
 use Rattle.checker.specs.declared.fault.CheckFault.{CheckFault}
 use Rattle.checker.specs.declared.fault.CheckFault.the-variants.{NotWholeNodes, TooLong, StackTooShort, NoSuchLine, RuleOfOtherKind, NoSuchRow, WrongCount, WrongChild, ConditionNotMet, NotOneLeft}
@@ -30,3 +38,7 @@ told (Err f) = refused (faultTold f .0) (faultTold f .1)
 abbrev pub early : Verdict → Bool
 early (accepted c) = false
 early (refused q k) = ltb q 14
+
+-- given stack enough, the answer is a claim exactly where the bytes are a certificate of it
+abbrev pub AcceptsExactly : Rules → List Row → List ℕ → ℕ → Result Claim CheckFault → Type 0
+AcceptsExactly T R bs stack r = length (nodes bs) ≤ stack → (c : Claim) → (r ≡ Ok c) ↔ IsCertificate T R bs c

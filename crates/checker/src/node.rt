@@ -2,7 +2,7 @@
 ghost use mathlib.Core.Path.{_≡_};
 ghost use Rattle.mtl.specs.Checking.{nodeStep};
 ghost use Rattle.mtl.specs.Tables.{linesOf};
-ghost use Rattle.checker.specs.Stepped.{stepped, FaultAt};
+ghost use Rattle.checker.specs.Stepped.{stepped, AtNode};
 use crate::children::lines::lines_fit;
 use crate::children::witness::rows_fit;
 use crate::fault::CheckFault;
@@ -28,7 +28,7 @@ pub(crate) fn judge<L: Readable>(
     waiting: &[Claim],
 ) -> Result<Ruling, CheckFault>
     ensures step { λ r. ⌜ stepped (now (waiting .entry)) node r ≡ nodeStep (linesOf (now (table .entry))) (L·Readable .rows (now (log .entry))) (now (waiting .entry)) node ⌝ }
-    ensures place { λ r. ⌜ FaultAt at r ⌝ }
+    ensures place { λ r. ⌜ AtNode at (now (waiting .entry)) node r ⌝ }
 {
     let Some(line) = table.line(node.line as usize) else {
         return Err(CheckFault::NoSuchLine { node: at });

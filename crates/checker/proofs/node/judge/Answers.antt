@@ -82,5 +82,5 @@ returns g c =
           ∙ goes-on (linesOf (c .args .table .now)) (g .L·Readable .rows (c .args .log .now)) (c .args .waiting .now) (c .args .node) (c .in-Some .line) (c .parts-of-parts .result) (c .gap .result) (c .stand-standing .result)
           (c .in-Some .ensures tt) (c .parts-of-parts .ensures) (c .gap .ensures) (c .stand-standing .ensures) (c .if-eq .ensures tt) (c .if-eq-2 .ensures tt) row many (take (length (c .args .waiting .now) - (length (c .args .waiting .now) - c .args .node .count)) (drop (length (c .args .waiting .now) - c .args .node .count) (c .args .waiting .now))) refl (sym (c .lines-fit .ensures) ∙ c .if-not-lines-fit .left)
           (c .if-eq-3 .ensures tt) (sym (c .rows-fit .ensures) ∙ c .if-not-rows-fit .left);
-      place = tt;
+      place = many;
     }
