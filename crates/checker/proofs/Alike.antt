@@ -3,19 +3,17 @@ use mathlib.Core.Path.{_≡_, refl, sym, ap, ap₂, _∙_}
 use mathlib.Core.Logic.{inl, inr}
 use mathlib.Core.Bool.{Bool, true, false, cond, _&&_}
 use mathlib.Core.List.{List, [], _∷_}
-use Prim.Native.Nat.{ℕ, suc, _+_, _-_, _≤_, _<_}
+use Prim.Native.Nat.{ℕ, suc, _+_, _-_}
 use native.Mathlib.Omega.{arith}
 use lib.Dec.{leb, eqb}
 use lib.ListN.{length}
 use Rattle.std.proofs.shelf.Tests.{both-ways, eqb-true, eq-eqb, ne-eqb, le-leb, cases-eq, and-parts}
 use Rattle.mtl.specs.declared.row.Row.{Row}
-use Rattle.mtl.specs.declared.line.Window.{Window}
 use Rattle.mtl.specs.declared.ruling.Claim.{Claim}
 use Rattle.mtl.specs.declared.ruling.Ruling.{Ruling}
-use Rattle.mtl.specs.Claims.{claim, each, sameRuling}
+use Rattle.mtl.specs.Claims.{claim, each}
 use Rattle.mtl.specs.Checking.{alike, allAlike, eachAlike, sameRows}
 use Rattle.mtl.specs.Ranges.{run, range, keep}
-use Rattle.mtl.specs.Windows.{inside}
 use Rattle.checker.specs.declared.reading.Side.{Side}
 use Rattle.checker.specs.Parts.{between, wide}
 use Rattle.checker.specs.Children.{isOf, allOf, firstThen, allAt, rowsAre, chosen}

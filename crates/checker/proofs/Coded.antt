@@ -1,36 +1,29 @@
 -- When a rule as the code has it, by its number, is a form of the rules' table: a lemma for each shape of its children.
-use mathlib.Core.Path.{_≡_, refl, sym, ap, ap₂, subst, _∙_}
+use mathlib.Core.Path.{_≡_, refl, sym, ap, ap₂, _∙_}
 use mathlib.Core.Bool.{Bool, true, false, cond, not, _&&_}
 use mathlib.Core.List.{List, [], _∷_}
-use Prim.Native.Nat.{ℕ, suc, _+_, _-_, _≤_, _<_}
+use Prim.Native.Nat.{ℕ, _-_}
 use native.Mathlib.Omega.{arith}
 use lib.Dec.{leb, ltb, eqb}
 use lib.ListN.{length}
-use Rattle.std.specs.declared.option.Option.{Option}
 use Rattle.std.specs.declared.option.Option.the-variants.{Some, None}
-use Rattle.std.proofs.shelf.Tests.{both-ways, eqb-true, eqb-false, eq-eqb, ne-eqb, lt-ltb, le-ltb, lt-leb, le-leb, and-left, and-right, and-parts}
+use Rattle.std.proofs.shelf.Tests.{both-ways, and-parts}
 use Rattle.std.proofs.shelf.Ways.{tells}
 use Rattle.mtl.specs.declared.row.Row.{Row}
 use Rattle.mtl.specs.declared.line.Window.{Window}
-use Rattle.mtl.specs.declared.line.Line.{Line}
-use Rattle.mtl.specs.declared.line.Line.the-variants.{Mark as mark, Not as neg, And as and, Or as or, Previous as previous, Next as next, Since as since, Until as until}
 use Rattle.mtl.specs.declared.ruling.Claim.{Claim}
 use Rattle.mtl.specs.declared.ruling.Ruling.{Ruling}
-use Rattle.mtl.specs.declared.ruling.Ruling.the-variants.{Held as held, Broken as broken}
-use Rattle.mtl.specs.Claims.{claim, Held, Broken, each, firstRow}
-use Rattle.mtl.specs.Checking.{formAt, alike, countFits, linesFit, allAlike, eachAlike, sameRows}
-use Rattle.mtl.specs.Forms.{exactly, first-then, any-of, Form, form, fixed, forms}
-use Rattle.mtl.specs.Ranges.{run, range, keep}
-use Rattle.mtl.specs.Rows.{timeAt}
-use Rattle.mtl.specs.Windows.{inside, upTo, past}
+use Rattle.mtl.specs.Claims.{claim, each, firstRow}
+use Rattle.mtl.specs.Checking.{alike, countFits, linesFit, allAlike, sameRows}
+use Rattle.mtl.specs.Forms.{first-then, any-of, Form, form, fixed}
+use Rattle.mtl.specs.Windows.{inside, past}
 use Rattle.checker.specs.declared.reading.Parts.{Parts}
-use Rattle.checker.specs.declared.reading.Side.the-variants.{Before, After}
 use Rattle.checker.specs.declared.rule.Interval.{Interval}
-use Rattle.checker.specs.Parts.{partsOf, beside, between, wide}
-use Rattle.checker.specs.Rule.{within, ofKind, counted, gapThere, gapInside, gapShort, gapLong, timed, ruled}
-use Rattle.checker.specs.Children.{allOf, firstThen, allAt, rowsAre, chosen, led, linesShown}
-use Rattle.checker.specs.Placed.{sinceHeld, sinceBroken, untilHeld, untilBroken, ledBy, placed}
-use Rattle.checker.proofs.Alike.{eqb-sym, all-alike, none-alike, one-alike, two-alike, no-rows, one-row, two-rows, each-row, led-rows, any-time, from-on, range-end}
+use Rattle.checker.specs.Parts.{beside}
+use Rattle.checker.specs.Rule.{ofKind, counted, gapThere, gapInside, gapShort, gapLong, timed, ruled}
+use Rattle.checker.specs.Children.{allOf, firstThen, allAt, rowsAre, linesShown}
+use Rattle.checker.specs.Placed.{placed}
+use Rattle.checker.proofs.Alike.{eqb-sym, all-alike, none-alike, one-alike, two-alike, no-rows, one-row, two-rows, each-row, led-rows}
 
 -- the interval of a node at row i of a line with these parts
 abbrev pub intervalOf : List Row → ℕ → Parts → Interval

@@ -9,7 +9,7 @@ use lib.ListN.{length, take, drop, length-drop}
 use lib.Seq.{take-all}
 use Rattle.std.specs.declared.option.Option.{Option}
 use Rattle.std.specs.declared.option.Option.the-variants.{Some, None}
-use Rattle.std.proofs.shelf.Tests.{both-ways, ltb-true, ltb-false, lt-ltb, le-ltb, le-leb, lt-leb, and-from, and-left, and-right}
+use Rattle.std.proofs.shelf.Tests.{both-ways, lt-ltb, le-ltb, le-leb, lt-leb, and-from, and-left, and-right}
 use Rattle.mtl.specs.declared.row.Row.{Row}
 use Rattle.mtl.specs.declared.line.Line.{Line}
 use Rattle.mtl.specs.declared.ruling.Claim.{Claim}

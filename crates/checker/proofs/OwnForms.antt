@@ -1,5 +1,5 @@
 -- Each rule as the code has it, by its number, is the form of that number in the rules' table.
-use mathlib.Core.Path.{_≡_, refl, sym, ap, ap₂, subst, _∙_}
+use mathlib.Core.Path.{_≡_, refl, ap, subst, _∙_}
 use mathlib.Core.Logic.{inl, inr}
 use mathlib.Core.Bool.{Bool, true, false, cond, not, _&&_}
 use mathlib.Core.List.{List, [], _∷_}
@@ -9,31 +9,25 @@ use lib.Dec.{leb, ltb, eqb}
 use lib.ListN.{length}
 use Rattle.std.specs.declared.option.Option.{Option}
 use Rattle.std.specs.declared.option.Option.the-variants.{Some, None}
-use Rattle.std.proofs.shelf.Tests.{both-ways, cases-lt, eqb-true, eqb-false, eq-eqb, ne-eqb, lt-ltb, le-ltb, lt-leb, le-leb, and-left, and-right, and-parts}
-use Rattle.std.proofs.shelf.Ways.{tells}
+use Rattle.std.proofs.shelf.Tests.{cases-lt, eqb-true, eqb-false, lt-leb, and-left, and-right}
 use Rattle.mtl.specs.declared.row.Row.{Row}
 use Rattle.mtl.specs.declared.line.Window.{Window}
 use Rattle.mtl.specs.declared.line.Line.{Line}
 use Rattle.mtl.specs.declared.line.Line.the-variants.{Mark as mark, Not as neg, And as and, Or as or, Previous as previous, Next as next, Since as since, Until as until}
-use Rattle.mtl.specs.declared.ruling.Claim.{Claim}
-use Rattle.mtl.specs.declared.ruling.Ruling.{Ruling}
 use Rattle.mtl.specs.declared.ruling.Ruling.the-variants.{Held as held, Broken as broken}
-use Rattle.mtl.specs.Claims.{claim, Held, Broken, each, firstRow}
-use Rattle.mtl.specs.Checking.{formAt, alike, countFits, linesFit, allAlike, eachAlike, sameRows}
-use Rattle.mtl.specs.Forms.{exactly, first-then, any-of, Form, form, fixed, forms}
+use Rattle.mtl.specs.Checking.{formAt}
+use Rattle.mtl.specs.Forms.{Form, forms}
 use Rattle.mtl.specs.Ranges.{run, range, keep}
 use Rattle.mtl.specs.Rows.{timeAt}
-use Rattle.mtl.specs.Windows.{inside, upTo, past}
+use Rattle.mtl.specs.Windows.{inside}
 use Rattle.mtl.specs.Lists.{AllOf}
 use Rattle.checker.specs.declared.reading.Parts.{Parts}
 use Rattle.checker.specs.declared.reading.Side.the-variants.{Before, After}
-use Rattle.checker.specs.declared.rule.Interval.{Interval}
-use Rattle.checker.specs.Parts.{partsOf, beside, between, wide}
-use Rattle.checker.specs.Rule.{within, ofKind, counted, gapThere, gapInside, gapShort, gapLong, timed, ruled}
-use Rattle.checker.specs.Children.{allOf, firstThen, allAt, rowsAre, chosen, led, linesShown}
-use Rattle.checker.specs.Placed.{sinceHeld, sinceBroken, untilHeld, untilBroken, ledBy, placed}
-use Rattle.checker.proofs.Alike.{eqb-sym, all-alike, none-alike, one-alike, two-alike, no-rows, one-row, two-rows, each-row, led-rows, any-time, from-on, range-end}
-use Rattle.checker.proofs.Coded.{intervalOf, Coded, alone, and-assoc, gap-there, gap-inside, gap-short, gap-long, first-row, no-child, one-child, two-children, led-form, any-form}
+use Rattle.checker.specs.Parts.{partsOf, wide}
+use Rattle.checker.specs.Rule.{within, ofKind}
+use Rattle.checker.specs.Children.{rowsAre, chosen}
+use Rattle.checker.proofs.Alike.{any-time, from-on, range-end}
+use Rattle.checker.proofs.Coded.{Coded, alone, and-assoc, gap-there, gap-inside, gap-short, gap-long, first-row, no-child, one-child, two-children, led-form, any-form}
 
 at : {R : List Row} {i : ℕ} {p : Parts} {f : Form} {n m : ℕ} → n ≡ m → Coded R i p n f → Coded R i p m f
 at {R = R} {i = i} {p = p} {f = f} e h = subst (λ x. Coded R i p x f) e h

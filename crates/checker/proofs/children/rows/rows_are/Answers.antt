@@ -1,8 +1,7 @@
-use mathlib.Core.Path.{_≡_, refl, sym, ap, _∙_}
-use Prim.Native.Nat.{_<_, _+_, _-_}
+use mathlib.Core.Path.{sym, ap, _∙_}
+use Prim.Native.Nat.{_+_, _-_}
 use native.Mathlib.Omega.{arith}
 use borrow.Author.Tests.{ltb-true, ltb-false}
-use lib.ListN.{length}
 use Rattle.mtl.specs.Windows.{inside}
 use Rattle.checker.specs.Children.{rowsAre, chosen}
 use Rattle.checker.proofs.Walks.{passed-by, none-left, other-row, same-row, rows-end}
