@@ -16,6 +16,9 @@ use mtl::ruling::Claim;
 use mtl::ruling::Node;
 use mtl::table::Table;
 
+// Six bytes for each of 4,096 nodes.
+const MOST_BYTES: usize = 24576;
+
 // The claim that a certificate proves, or the first question answered no. The stack needs a place for each node.
 pub fn check<L: Readable>(
     table: &Table,
@@ -31,7 +34,7 @@ pub fn check<L: Readable>(
     if certificate.len() == 0 || certificate.len() % 6 != 0 {
         return Err(CheckFault::NotWholeNodes);
     }
-    if certificate.len() > 24576 {
+    if certificate.len() > MOST_BYTES {
         return Err(CheckFault::TooLong);
     }
     if certificate.len() / 6 > stack.len() {

@@ -35,15 +35,8 @@ fn since_broken<L: Readable>(log: &L, window: Window, row: u16, j: u16, others: 
 {
     let i = row as usize;
     let j = j as usize;
-    rows_are(
-        others,
-        log,
-        Side::Before,
-        at_least(window.from),
-        i,
-        j,
-        i + 1,
-    )
+    let from = at_least(window.from);
+    rows_are(others, log, Side::Before, from, i, j, i + 1)
         && 1 <= j
         && j <= i
         && up_to(window, apart(log, Side::Before, i, j - 1))

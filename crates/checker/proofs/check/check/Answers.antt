@@ -25,17 +25,17 @@ returns-then-certificate-eq0 g c =
     let p = promised (linesOf (c .args .table .now)) (g .L·Readable .rows (c .args .log .now)) (c .args .certificate .now) (length (c .args .stack .now)) (c .args .table .now .formed) _ is in
     record { answer = is; exact = p .0; says = p .1; untouched = λ _. refl }
 
-pub returns-then-certificate-gt24576 : need.returns-then-certificate-gt24576
-returns-then-certificate-gt24576 g c =
+pub returns-then-certificate-gt-MOST-BYTES : need.returns-then-certificate-gt-MOST-BYTES
+returns-then-certificate-gt-MOST-BYTES g c =
     let some : 0 < length (c .args .certificate .now) = omega arith in
-    let is = too-long (linesOf (c .args .table .now)) (g .L·Readable .rows (c .args .log .now)) (c .args .certificate .now) (length (c .args .stack .now)) some (c .if-certificate-ne0 .left) (c .if-certificate-gt24576 .taken) in
+    let is = too-long (linesOf (c .args .table .now)) (g .L·Readable .rows (c .args .log .now)) (c .args .certificate .now) (length (c .args .stack .now)) some (c .if-certificate-ne0 .left) (c .if-certificate-gt-MOST-BYTES .taken) in
     let p = promised (linesOf (c .args .table .now)) (g .L·Readable .rows (c .args .log .now)) (c .args .certificate .now) (length (c .args .stack .now)) (c .args .table .now .formed) _ is in
     record { answer = is; exact = p .0; says = p .1; untouched = λ _. refl }
 
 pub returns-then-certificate-stack : need.returns-then-certificate-stack
 returns-then-certificate-stack g c =
     let some : 0 < length (c .args .certificate .now) = omega arith in
-    let is = stack-short (linesOf (c .args .table .now)) (g .L·Readable .rows (c .args .log .now)) (c .args .certificate .now) (length (c .args .stack .now)) some (c .if-certificate-ne0 .left) (c .if-certificate-gt24576 .left) (c .if-certificate-stack .taken) in
+    let is = stack-short (linesOf (c .args .table .now)) (g .L·Readable .rows (c .args .log .now)) (c .args .certificate .now) (length (c .args .stack .now)) some (c .if-certificate-ne0 .left) (c .if-certificate-gt-MOST-BYTES .left) (c .if-certificate-stack .taken) in
     let p = promised (linesOf (c .args .table .now)) (g .L·Readable .rows (c .args .log .now)) (c .args .certificate .now) (length (c .args .stack .now)) (c .args .table .now .formed) _ is in
     record { answer = is; exact = p .0; says = p .1; untouched = λ _. refl }
 
@@ -45,6 +45,6 @@ walk-requires g c κs = omega arith
 pub returns : need.returns
 returns g c =
     let some : 0 < length (c .args .certificate .now) = omega arith in
-    let is = c .walk .ensures ∙ read-on (linesOf (c .args .table .now)) (g .L·Readable .rows (c .args .log .now)) (c .args .certificate .now) (length (c .args .stack .now)) some (c .if-certificate-ne0 .left) (c .if-certificate-gt24576 .left) (c .if-certificate-stack .left) in
+    let is = c .walk .ensures ∙ read-on (linesOf (c .args .table .now)) (g .L·Readable .rows (c .args .log .now)) (c .args .certificate .now) (length (c .args .stack .now)) some (c .if-certificate-ne0 .left) (c .if-certificate-gt-MOST-BYTES .left) (c .if-certificate-stack .left) in
     let p = promised (linesOf (c .args .table .now)) (g .L·Readable .rows (c .args .log .now)) (c .args .certificate .now) (length (c .args .stack .now)) (c .args .table .now .formed) _ is in
     record { answer = is; exact = p .0; says = p .1; untouched = λ h. absurd (both-ways _ (ap early (c .walk .ensures) ∙ late (linesOf (c .args .table .now)) (g .L·Readable .rows (c .args .log .now)) [] (nodes (c .args .certificate .now)) 0) h) }
