@@ -2,3 +2,4 @@ pub mod Kept
 pub mod Shown
 pub mod Whole
 pub mod Blank
+pub mod Within

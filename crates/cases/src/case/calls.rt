@@ -1,17 +1,23 @@
 // The calls of a case.
 ghost use mathlib.Core.Path.{_≡_};
+ghost use mathlib.Core.Bool.{true};
+ghost use lib.ListN.{length};
 ghost use Rattle.logs.specs.Answers.{addTold};
-ghost use Rattle.cases.specs.Runs.{Added, Looked};
+ghost use Rattle.checker.specs.Told.{told as checkTold, early};
+ghost use Rattle.cases.specs.Runs.{Added, Presented, Looked};
 ghost use Rattle.cases.specs.Law.{Law};
 ghost use Rattle.cases.specs.View.{stateOf, Does, showTold};
 use crate::book::Book;
 use crate::case::Case;
 use crate::case::ShowFault;
 use crate::entry::Entry;
+use checker::check::check;
+use checker::fault::CheckFault;
 use logs::fault::AddFault;
 use logs::traits::Growing;
 use logs::traits::Readable;
 use mtl::row::Row;
+use mtl::ruling::Claim;
 use mtl::table::Table;
 
 impl<L: Growing> Case<L> {
@@ -47,6 +53,17 @@ impl<L: Growing> Case<L> {
         ensures { λ r. ⌜ Does (L·Growing .room) (L·Readable .rows) (now (self .entry)) (Added row (addTold r)) (now (self .exit)) ⌝ }
     {
         self.log.add(row)
+    }
+
+    // Presents a certificate: Check, on the case's table and rows; an accepted claim is entered.
+    pub fn present(&mut self, certificate: &[u8], stack: &mut [Claim]) -> Result<Claim, CheckFault>
+        ensures step { λ r. ⌜ Does (L·Growing .room) (L·Readable .rows) (now (self .entry)) (Presented (now (certificate .entry)) (length (now (stack .entry))) (checkTold r)) (now (self .exit)) ⌝ }
+        ensures untouched { λ r. ⌜ (early (checkTold r) ≡ true → now (stack .exit) ≡ now (stack .entry)) ⌝ }
+    {
+        let claim = check(&self.table, &self.log, certificate, stack)?;
+        self.book
+            .enter(claim.line as usize, claim.row as usize, claim.ruling);
+        Ok(claim)
     }
 
     // What the book shows for a line at a row.
