@@ -3,8 +3,12 @@ ghost use mathlib.Core.Path.{_≡_};
 ghost use mathlib.Core.Bool.{true};
 ghost use lib.ListN.{length};
 ghost use Rattle.logs.specs.Answers.{addTold};
+ghost use Rattle.mtl.specs.Buffers.{Fills};
+ghost use Rattle.mtl.specs.Settling.{lengths, wrote};
+ghost use Rattle.mtl.specs.Tables.{linesOf};
+ghost use Rattle.writer.specs.Told.{told as settleTold};
 ghost use Rattle.checker.specs.Told.{told as checkTold, early};
-ghost use Rattle.cases.specs.Runs.{Added, Presented, Looked};
+ghost use Rattle.cases.specs.Runs.{Added, Presented, Ruled, Looked};
 ghost use Rattle.cases.specs.Law.{Law};
 ghost use Rattle.cases.specs.View.{stateOf, Does, showTold};
 use crate::book::Book;
@@ -18,7 +22,10 @@ use logs::traits::Growing;
 use logs::traits::Readable;
 use mtl::row::Row;
 use mtl::ruling::Claim;
+use mtl::ruling::Settled;
 use mtl::table::Table;
+use writer::fault::SettleFault;
+use writer::settle::settle;
 
 impl<L: Growing> Case<L> {
     // Opens a case: its book shows open everywhere, and every run of calls from here on keeps the law.
@@ -64,6 +71,23 @@ impl<L: Growing> Case<L> {
         self.book
             .enter(claim.line as usize, claim.row as usize, claim.ruling);
         Ok(claim)
+    }
+
+    // Settles a line at a row: Settle, on the case's table and rows; an accepted ruling is entered.
+    pub fn settle(
+        &mut self,
+        line: usize,
+        row: usize,
+        sizes: &mut [u16],
+        plan: &mut [u16],
+        out: &mut [u8],
+    ) -> Result<Settled, SettleFault>
+        ensures step { λ r. ⌜ Does (L·Growing .room) (L·Readable .rows) (now (self .entry)) (Ruled line row (lengths (length (now (sizes .entry))) (length (now (plan .entry))) (length (now (out .entry)))) (settleTold r) (wrote (settleTold r) (now (out .exit)))) (now (self .exit)) ⌝ }
+        ensures buffers { λ r. ⌜ Fills (linesOf (now (self .entry) .table)) (L·Readable .rows (now (self .entry) .log)) line row (settleTold r) (now (sizes .entry)) (now (sizes .exit)) (now (plan .entry)) (now (plan .exit)) (now (out .entry)) (now (out .exit)) ⌝ }
+    {
+        let settled = settle(&self.table, &self.log, line, row, sizes, plan, out)?;
+        self.book.enter(line, row, settled.ruling);
+        Ok(settled)
     }
 
     // What the book shows for a line at a row.
