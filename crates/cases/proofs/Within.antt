@@ -30,8 +30,8 @@ claim-within t R cert k c r e =
     (omega arith, omega arith)
 
 pub settled-within :
-  (t : Table) (R : List Row) (n i : ℕ) (ls : Lengths) (s : Settled) → NeverFalls R → length R ≤ 128 → Ok s ≡ settleAnswer (linesOf t) R n i ls →
-  (n < 32) × (i < 128)
+    (t : Table) (R : List Row) (n i : ℕ) (ls : Lengths) (s : Settled) → NeverFalls R → length R ≤ 128 → Ok s ≡ settleAnswer (linesOf t) R n i ls →
+    (n < 32) × (i < 128)
 settled-within t R n i ls s up r e =
     let h = cert-within (ruled (linesOf t) R (t .formed) up n i s ls (sym e) .cert) in
     let f = lines-few t in
