@@ -80,15 +80,19 @@ fn worked_log() -> MaskLog {
     log_of(&rows)
 }
 
-fn bytes_changed(out: &impl Print, table: &Table, log: &MaskLog) -> io::Result<()> {
-    let mut stack = [BLANK; 3];
+fn bytes_changed(
+    out: &impl Print,
+    table: &Table,
+    log: &MaskLog,
+    stack: &mut [Claim],
+) -> io::Result<()> {
     for at in 0..18 {
         let was = WORKED[at];
         for value in [was.wrapping_add(1), was.wrapping_sub(1), 0, 255] {
             let mut changed = WORKED;
             changed[at] = value;
             let answer = Answer {
-                told: check(table, log, &changed, &mut stack),
+                told: check(table, log, &changed, stack),
             };
             println!(out, "byte {at} = {value}: {answer}")?;
         }
@@ -96,40 +100,47 @@ fn bytes_changed(out: &impl Print, table: &Table, log: &MaskLog) -> io::Result<(
     Ok(())
 }
 
-fn cuts(out: &impl Print, table: &Table, log: &MaskLog) -> io::Result<()> {
-    let mut stack = [BLANK; 3];
+fn cuts(out: &impl Print, table: &Table, log: &MaskLog, stack: &mut [Claim]) -> io::Result<()> {
     for n in 0..18 {
         let answer = Answer {
-            told: check(table, log, &WORKED[..n], &mut stack),
+            told: check(table, log, &WORKED[..n], stack),
         };
         println!(out, "first {n} bytes: {answer}")?;
     }
     Ok(())
 }
 
-// Leaves one after another.
-fn sizes(out: &impl Print, table: &Table, log: &MaskLog) -> io::Result<()> {
-    let mut bytes = [0u8; 24582];
-    for i in 0..24582 {
+// Leaves one after another, as many as there is room for.
+fn leaves(
+    out: &impl Print,
+    table: &Table,
+    log: &MaskLog,
+    bytes: &mut [u8],
+    stack: &mut [Claim],
+) -> io::Result<()> {
+    for i in 0..bytes.len() {
         bytes[i] = LEAF[i % 6];
     }
-    let mut stack = [BLANK; 4097];
-    for nodes in [1, 2, 4096, 4097] {
-        let answer = Answer {
-            told: check(table, log, &bytes[..6 * nodes], &mut stack),
-        };
-        println!(out, "{nodes} nodes: {answer}")?;
-    }
-    for places in [2, 3] {
-        let answer = Answer {
-            told: check(table, log, &WORKED, &mut stack[..places]),
-        };
-        println!(out, "3 nodes, stack of {places}: {answer}")?;
-    }
     let answer = Answer {
-        told: check(table, log, &bytes[..24576], &mut stack[..4095]),
+        told: check(table, log, bytes, stack),
     };
-    println!(out, "4096 nodes, stack of 4095: {answer}")
+    let nodes = bytes.len() / 6;
+    let places = stack.len();
+    println!(out, "{nodes} leaves, stack of {places}: {answer}")
+}
+
+fn sizes(out: &impl Print, table: &Table, log: &MaskLog) -> io::Result<()> {
+    let mut stack = [BLANK; 4097];
+    leaves(out, table, log, &mut [0; 6], &mut stack)?;
+    leaves(out, table, log, &mut [0; 12], &mut stack)?;
+    leaves(out, table, log, &mut [0; 24576], &mut stack)?;
+    leaves(out, table, log, &mut [0; 24582], &mut stack)?;
+    leaves(out, table, log, &mut [0; 24576], &mut [BLANK; 4095])?;
+    leaves(out, table, log, &mut [0; 24576], &mut [BLANK; 4096])?;
+    let short = Answer {
+        told: check(table, log, &WORKED, &mut [BLANK; 2]),
+    };
+    println!(out, "worked, stack of 2: {short}")
 }
 
 // One line with a window, over a few rows.
@@ -256,8 +267,8 @@ fn main(rt: LibcRuntime) -> io::Result<()> {
         told: check(&table, &log, &WORKED, &mut stack),
     };
     println!(rt, "worked: {answer}")?;
-    bytes_changed(&rt, &table, &log)?;
-    cuts(&rt, &table, &log)?;
+    bytes_changed(&rt, &table, &log, &mut stack)?;
+    cuts(&rt, &table, &log, &mut stack)?;
     sizes(&rt, &table, &log)?;
     sinces(&rt)?;
     untils(&rt)
