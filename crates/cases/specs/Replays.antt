@@ -28,23 +28,27 @@ use Rattle.cases.specs.View.{showTold}
 pub data Records : Call → Answer → Event → Type 0 where
   of-add : (x : Row) (a : Result (Unit {0}) AddFault) → Records (Add x) (added a) (Added x (addTold a))
   of-present :
-    (cert : _) (stack : ℕ) (a : Result Claim CheckFault) → Records (Present cert) (presented a) (Presented (cert .now) stack (checkTold a))
+      (cert : _) (stack : ℕ) (a : Result Claim CheckFault) → Records (Present cert) (presented a) (Presented (cert .now) stack (checkTold a))
   of-settle :
-    (n i : ℕ) (ls : Lengths) (out : List ℕ) (a : Result Settled SettleFault) → Records (Settle n i) (settled a) (Ruled n i ls (settleTold a) out)
+      (n i : ℕ) (ls : Lengths) (out : List ℕ) (a : Result Settled SettleFault) → Records (Settle n i) (settled a) (Ruled n i ls (settleTold a) out)
   of-show : (n i : ℕ) (a : Result Entry ShowFault) → Records (Show n i) (shown a) (Looked n i (showTold a))
 
 -- call by call and answer by answer
 pub data RecordsAll : List Call → List Answer → List Event → Type 0 where
   of-none : RecordsAll [] [] []
   of-more :
-    {c : Call} {a : Answer} {e : Event} {cs : List Call} {answers : List Answer} {es : List Event} → Records c a e → RecordsAll cs answers es →
-    RecordsAll (c ∷ cs) (a ∷ answers) (e ∷ es)
+      {c : Call} {a : Answer} {e : Event} {cs : List Call} {answers : List Answer} {es : List Event} → Records c a e → RecordsAll cs answers es →
+      RecordsAll (c ∷ cs) (a ∷ answers) (e ∷ es)
 
 -- the call, made in state s, gave this answer and left state t
 abbrev pub Makes : State → Call → Answer → State → Type 0
 Makes s c a t = (e : Event) × Step s e t × Records c a e
 
--- the calls were made one after another on a case opened with the table T and with a log of this room rule and these rows R, and gave these
+-- the calls, made from state o on, gave these answers and left state t
+abbrev pub MakesAll : State → List Call → List Answer → State → Type 0
+MakesAll o cs answers t = (es : List Event) × Run o es t × RecordsAll cs answers es
+
+-- on a case opened with the table T and with a log of this room rule and these rows R, the calls were made one after another and gave these
 -- answers: what happened is a run from the opened case, and keeps the law
 pub record Replayed (T : Rules) (room : List Row → Row → Bool) (R : List Row) (cs : List Call) (answers : List Answer) (t : State) : Type 0 where
   pub start : State
@@ -52,7 +56,5 @@ pub record Replayed (T : Rules) (room : List Row → Row → Bool) (R : List Row
   pub table-is : start .table ≡ T
   pub room-is : start .room ≡ room
   pub rows-are : start .rows ≡ R
-  pub events : List Event
-  pub ran : Run start events t
-  pub recorded : RecordsAll cs answers events
-  pub lawful : Lawful T R events
+  pub ran : MakesAll start cs answers t
+  pub lawful : Lawful T R (ran .0)
