@@ -1,0 +1,10 @@
+//! Settling: from a rule table and the rows of a log to rulings, least sizes and shortest certificates.
+mod best;
+mod cells;
+mod choose;
+mod fill;
+mod neighbours;
+mod since;
+mod sums;
+mod until;
+mod windows;
