@@ -6,3 +6,7 @@ pub mod Stored
 pub mod Right
 pub mod Outside
 pub mod Found
+pub mod Making
+pub mod Taking
+pub mod Keeping
+pub mod Ranging

@@ -36,7 +36,7 @@ false-of false t = refl
 ways-none : (g : Claim → ℕ) (f : Form) (js : List ℕ) → ((j : ℕ) → f .meets j ≡ false) → ofWays g f js ≡ none
 unfolding ofWays
 ways-none g f [] h = refl
-ways-none g f (j ∷ js) h = ap (λ b. merge (offer b (sumCells g 1 (f .kids j)) (128 * f .number + j)) (ofWays g f js)) (h j) ∙ ways-none g f js h
+ways-none g f (j ∷ js) h = ap (λ b. merge (offer b (sumCells g 1 (f .kids j)) (256 * f .number + j)) (ofWays g f js)) (h j) ∙ ways-none g f js h
 
 and-false : (a b : Bool) → b ≡ false → a && b ≡ false
 and-false true b e = e
@@ -51,11 +51,11 @@ last-one x b d s p q h e k = (λ i. merge (h i) (merge (merge (offer (e i) s p) 
 
 module _ (g : Claim → ℕ) (R : List Row) (i : ℕ) (w : Window) (l r : ℕ) where
   pub way20 : (j n sum : ℕ) → n ≡ suc j → j ≤ i → sum ≡ sumCells g 1 (each held l (run n (suc i - n))) →
-      offer (inside w (timeAt R i - timeAt R j)) (addCell sum (g (Held r j))) (128 * 20 + j) ≡ wayBy g (rule20 R i w l r) j
+      offer (inside w (timeAt R i - timeAt R j)) (addCell sum (g (Held r j))) (256 * 20 + j) ≡ wayBy g (rule20 R i w l r) j
   unfolding range
   way20 j n sum e h k =
       let q : n ≡ j + 1 = omega arith in
-      ap₂ (λ b s. offer b s (128 * 20 + j)) (sym (and-true (leb j i) _ (le→leb j i h)))
+      ap₂ (λ b s. offer b s (256 * 20 + j)) (sym (and-true (leb j i) _ (le→leb j i h)))
       (ap (λ s. addCell s (g (Held r j))) (k ∙ ap (λ x. sumCells g 1 (each held l (run x (suc i - x)))) q) ∙ sym (sum-cons g 1 (Held r j) _))
 
   pub held-since : ofWays g (rule20 R i w l r) (run 0 (suc i)) ≡ ofForms g held (forms R i (since w l r))
@@ -63,10 +63,10 @@ module _ (g : Claim → ℕ) (R : List Row) (i : ℕ) (w : Window) (l r : ℕ) w
   held-since = sym (ways-tight g (rule20 R i w l r) (run 0 (suc i)))
 
   pub way21 : (j late : ℕ) → 1 ≤ j → j ≤ i → w .from ≤ timeAt R i - timeAt R 0 → late ≡ sumCells g 1 (each broken r (keep (farBefore R i w) (run j (suc i - j)))) →
-      offer (upTo (w .to) (timeAt R i - timeAt R (j - 1))) (addCell late (g (Broken l j))) (128 * 21 + j) ≡ wayBy g (rule21 R i w l r) j
+      offer (upTo (w .to) (timeAt R i - timeAt R (j - 1))) (addCell late (g (Broken l j))) (256 * 21 + j) ≡ wayBy g (rule21 R i w l r) j
   unfolding range
   way21 j late p h f k =
-      ap₂ (λ b s. offer b s (128 * 21 + j))
+      ap₂ (λ b s. offer b s (256 * 21 + j))
       (sym (and-true (leb 1 j && leb j i) _ (subst Yes (sym (and-true (leb 1 j) (leb j i) (le→leb 1 j p))) (le→leb j i h)) ∙
       and-second (upTo (w .to) (timeAt R i - timeAt R (j - 1))) _ (le→leb _ _ f)))
       (ap (λ s. addCell s (g (Broken l j))) k ∙ sym (sum-cons g 1 (Broken l j) _))
@@ -76,27 +76,27 @@ module _ (g : Claim → ℕ) (R : List Row) (i : ℕ) (w : Window) (l r : ℕ) w
       and-second false b t = refl
 
   pub broken-since : w .from ≤ timeAt R i - timeAt R 0 →
-      merge (ofWays g (rule21 R i w l r) (run 1 i)) (offer true (sumCells g 1 (each broken r (keep (inBefore R i w) (run 0 (suc i - 0))))) (128 * 22 + 0)) ≡
+      merge (ofWays g (rule21 R i w l r) (run 1 i)) (offer true (sumCells g 1 (each broken r (keep (inBefore R i w) (run 0 (suc i - 0))))) (256 * 22 + 0)) ≡
       ofForms g broken (forms R i (since w l r))
   unfolding forms ofForms ofWays run range sumCells
   broken-since h =
       ap (merge (ofWays g (rule21 R i w l r) (run 1 i)))
-      (sym (last-two (leb (w .from) (timeAt R i - timeAt R 0)) (ltb (timeAt R i - timeAt R 0) (w .from)) _ (128 * 22 + 0) (128 * 23 + 0)
+      (sym (last-two (leb (w .from) (timeAt R i - timeAt R 0)) (ltb (timeAt R i - timeAt R 0) (w .from)) _ (256 * 22 + 0) (256 * 23 + 0)
       (true-of _ (le→leb _ _ h)) (false-of _ (λ t. let z = ltb→lt _ _ t in omega arith))))
 
-  pub short-since : timeAt R i - timeAt R 0 < w .from → offer true 1 (128 * 23 + 0) ≡ ofForms g broken (forms R i (since w l r))
+  pub short-since : timeAt R i - timeAt R 0 < w .from → offer true 1 (256 * 23 + 0) ≡ ofForms g broken (forms R i (since w l r))
   unfolding forms ofForms ofWays run range sumCells
   short-since h =
       let no-leb : leb (w .from) (timeAt R i - timeAt R 0) ≡ false = false-of _ (λ t. let z = leb→le _ _ t in omega arith) in
       sym (last-one (ofWays g (rule21 R i w l r) (run 1 i)) (leb (w .from) (timeAt R i - timeAt R 0)) (ltb (timeAt R i - timeAt R 0) (w .from))
-      (sumCells g 1 (each broken r (keep (inBefore R i w) (range 0 i)))) (128 * 22 + 0) (128 * 23 + 0)
+      (sumCells g 1 (each broken r (keep (inBefore R i w) (range 0 i)))) (256 * 22 + 0) (256 * 23 + 0)
       (ways-none g (rule21 R i w l r) (run 1 i) (λ j. and-false (leb 1 j && leb j i) _ (and-false (upTo (w .to) (timeAt R i - timeAt R (j - 1))) _ no-leb)))
       no-leb (true-of _ (lt→ltb _ _ h)))
 
   pub way24 : (j sum : ℕ) → i ≤ j → j < length R → sum ≡ sumCells g 1 (each held l (run i (j - i))) →
-      offer (inside w (timeAt R j - timeAt R i)) (addCell sum (g (Held r j))) (128 * 24 + j) ≡ wayBy g (rule24 R i w l r) j
+      offer (inside w (timeAt R j - timeAt R i)) (addCell sum (g (Held r j))) (256 * 24 + j) ≡ wayBy g (rule24 R i w l r) j
   way24 j sum p h k =
-      ap₂ (λ b s. offer b s (128 * 24 + j))
+      ap₂ (λ b s. offer b s (256 * 24 + j))
       (sym (and-true (leb i j && ltb j (length R)) _ (subst Yes (sym (and-true (leb i j) (ltb j (length R)) (le→leb i j p))) (lt→ltb j (length R) h))))
       (ap (λ s. addCell s (g (Held r j))) k ∙ sym (sum-cons g 1 (Held r j) _))
 
@@ -105,16 +105,16 @@ module _ (g : Claim → ℕ) (R : List Row) (i : ℕ) (w : Window) (l r : ℕ) w
   held-until = sym (ways-tight g (rule24 R i w l r) (run i (length R - i)))
 
   pub way25 : (j n late : ℕ) → n ≡ suc j → i ≤ j → j < length R → late ≡ sumCells g 1 (each broken r (keep (farAfter R i w) (run i (n - i)))) →
-      offer (upTo (w .to) (timeAt R j - timeAt R i)) (addCell late (g (Broken l j))) (128 * 25 + j) ≡ wayBy g (rule25 R i w l r) j
+      offer (upTo (w .to) (timeAt R j - timeAt R i)) (addCell late (g (Broken l j))) (256 * 25 + j) ≡ wayBy g (rule25 R i w l r) j
   unfolding range
   way25 j n late e p h k =
-      ap₂ (λ b s. offer b s (128 * 25 + j))
+      ap₂ (λ b s. offer b s (256 * 25 + j))
       (sym (and-true (leb i j && ltb j (length R)) _ (subst Yes (sym (and-true (leb i j) (ltb j (length R)) (le→leb i j p))) (lt→ltb j (length R) h))))
       (ap (λ s. addCell s (g (Broken l j))) (k ∙ ap (λ x. sumCells g 1 (each broken r (keep (farAfter R i w) (run i (x - i))))) e) ∙ sym (sum-cons g 1 (Broken l j) _))
 
   pub broken-until :
       merge (ofWays g (rule25 R i w l r) (run i (length R - i)))
-      (offer (past (w .to) (timeAt R (length R - 1) - timeAt R i)) (sumCells g 1 (each broken r (keep (inAfter R i w) (run i (length R - i))))) (128 * 26 + 0)) ≡
+      (offer (past (w .to) (timeAt R (length R - 1) - timeAt R i)) (sumCells g 1 (each broken r (keep (inAfter R i w) (run i (length R - i))))) (256 * 26 + 0)) ≡
       ofForms g broken (forms R i (until w l r))
   unfolding forms ofForms ofWays run
   broken-until =

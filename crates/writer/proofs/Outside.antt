@@ -38,7 +38,7 @@ pub past-outside : (w : Window) (d : ℕ) → past (w .to) d ≡ true → inside
 past-outside w d p = second-false (leb (w .from) d) _ (past-not (w .to) d p)
 
 pub unmet : (g : Claim → ℕ) (f : Form) (j : ℕ) → f .meets j ≡ false → wayBy g f j ≡ none
-unmet g f j e = ap (λ b. offer b (sumCells g 1 (f .kids j)) (128 * f .number + j)) e
+unmet g f j e = ap (λ b. offer b (sumCells g 1 (f .kids j)) (256 * f .number + j)) e
 
 pub idle-before : (g : Claim → ℕ) (f : Form) (d a n end : ℕ) → n ≡ a + d → n ≤ end → ((j : ℕ) → a ≤ j → j < n → wayBy g f j ≡ none) →
     ofWays g f (run n (end - n)) ≡ ofWays g f (run a (end - a))
@@ -58,9 +58,9 @@ none-before g r l (suc d) m n end e h z =
     sym (all-down g r l m (suc m) end _ refl (omega arith) refl) ∙ ap (λ x. addCell x (g (Of r l m))) (none-before g r l d (suc m) n end (omega arith) h z)
 
 pub idle : (g : Claim → ℕ) (f : Form) (j : ℕ) (k : Claim) (ks : List Claim) → f .kids j ≡ k ∷ ks → sumCells g 1 ks ≡ 0 → wayBy g f j ≡ none
-idle g f j k ks e z = ap (λ s. offer (f .meets j) s (128 * f .number + j)) (ap (sumCells g 1) e ∙ sum-cons g 1 k ks ∙ ap (λ x. addCell x (g k)) z) ∙ go (f .meets j)
+idle g f j k ks e z = ap (λ s. offer (f .meets j) s (256 * f .number + j)) (ap (sumCells g 1) e ∙ sum-cons g 1 k ks ∙ ap (λ x. addCell x (g k)) z) ∙ go (f .meets j)
   where
-    go : (b : Bool) → offer b 0 (128 * f .number + j) ≡ none
+    go : (b : Bool) → offer b 0 (256 * f .number + j) ≡ none
     go true = refl
     go false = refl
 

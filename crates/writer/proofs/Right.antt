@@ -19,7 +19,7 @@ use Rattle.mtl.specs.declared.ruling.Claim.{Claim}
 use Rattle.mtl.specs.declared.ruling.Ruling.{Ruling}
 use Rattle.mtl.specs.declared.ruling.Ruling.the-variants.{Held as held, Broken as broken}
 use Rattle.mtl.proofs.Filled.{cell-at}
-use Rattle.mtl.proofs.Lists.{AllOf}
+use Rattle.mtl.specs.Lists.{AllOf}
 use Rattle.mtl.proofs.Operands.{Earlier, earlier-at}
 use Rattle.writer.specs.Choice.{Best, none, merge, choice, offer, wayBy, ofWays, ofForms, cellIn}
 use Rattle.writer.specs.Tables.{bestBy, cellOf, sizeAt, codeAt, filled}
@@ -71,7 +71,7 @@ module _ (g h : Claim → ℕ) (n : ℕ) (same : (k : Claim) → k .line < n →
   ways-same : (f : Form) (js : List ℕ) → ((j : ℕ) → AllOf (λ (k : Claim). k .line < n) (f .kids j)) → ofWays g f js ≡ ofWays h f js
   unfolding ofWays
   ways-same f [] q = refl
-  ways-same f (j ∷ js) q = ap₂ (λ s b. merge (offer (f .meets j) s (128 * f .number + j)) b) (sum-same 1 (f .kids j) (q j)) (ways-same f js q)
+  ways-same f (j ∷ js) q = ap₂ (λ s b. merge (offer (f .meets j) s (256 * f .number + j)) b) (sum-same 1 (f .kids j) (q j)) (ways-same f js q)
 
   forms-same : (r : Ruling) (fs : List Form) → AllOf (λ (f : Form). (j : ℕ) → AllOf (λ (k : Claim). k .line < n) (f .kids j)) fs → ofForms g r fs ≡ ofForms h r fs
   unfolding ofForms
@@ -131,7 +131,7 @@ pub way-size : (g : Claim → ℕ) (f : Form) (j : ℕ) → wayBy g f j .size �
 unfolding bestCell guard
 way-size g f j = one (f .meets j)
   where
-    one : (b : Bool) → offer b (sumCells g 1 (f .kids j)) (128 * f .number + j) .size ≡ bestCell g (guard b (by (f .number) (f .kids j) ∷ []))
+    one : (b : Bool) → offer b (sumCells g 1 (f .kids j)) (256 * f .number + j) .size ≡ bestCell g (guard b (by (f .number) (f .kids j) ∷ []))
     one true = choice-size (sumCells g 1 (f .kids j)) _
     one false = refl
 

@@ -2,7 +2,7 @@
 use Prim.Native.Nat.{ℕ, zero, suc, _+_, _-_, _*_, _/_, _%_, _<_, _≤_}
 use mathlib.Core.Path.{_≡_, refl, sym, ap, ap₂, _∙_}
 use mathlib.Core.List.{List, [], _∷_, _++_, map, append-assoc}
-use mathlib.Core.Bool.{Bool, cond}
+use mathlib.Core.Bool.{cond}
 use native.Mathlib.Omega.{arith}
 use lib.ListN.{length, getD, set, drop, List·getD-append}
 use lib.Seq.{drop-cons, set-at, drop-append-add, drop-drop}
@@ -14,7 +14,7 @@ use Rattle.mtl.specs.declared.ruling.Ruling.the-variants.{Held as held, Broken 
 use Rattle.writer.specs.Tables.{filled}
 use Rattle.writer.proofs.Adding.{run-back}
 
-length-run : (f : ℕ → ℕ) (a n : ℕ) → length (map f (run a n)) ≡ n
+pub length-run : {A : Type 0} (f : ℕ → A) (a n : ℕ) → length (map f (run a n)) ≡ n
 unfolding run
 length-run f a zero = refl
 length-run f a (suc n) = ap suc (length-run f (suc a) n)
@@ -23,11 +23,11 @@ map-back : (f : ℕ → ℕ) (xs ys : List ℕ) → map f (xs ++ ys) ≡ map f x
 map-back f [] ys = refl
 map-back f (x ∷ xs) ys = ap (λ zs. f x ∷ zs) (map-back f xs ys)
 
-get-run : (f : ℕ → ℕ) (a n k : ℕ) → k < n → getD (map f (run a n)) k 0 ≡ f (a + k)
+pub get-run : {A : Type 0} (f : ℕ → A) (d : A) (a n k : ℕ) → k < n → getD (map f (run a n)) k d ≡ f (a + k)
 unfolding run
-get-run f a zero k h = absurd (omega arith)
-get-run f a (suc n) zero h = let e : a ≡ a + 0 = omega arith in ap f e
-get-run f a (suc n) (suc k) h = let e : suc a + k ≡ a + suc k = omega arith in get-run f (suc a) n k (omega arith) ∙ ap f e
+get-run f d a zero k h = absurd (omega arith)
+get-run f d a (suc n) zero h = let e : a ≡ a + 0 = omega arith in ap f e
+get-run f d a (suc n) (suc k) h = let e : suc a + k ≡ a + suc k = omega arith in get-run f d (suc a) n k (omega arith) ∙ ap f e
 
 pub filled-none : (f : ℕ → ℕ) (old : List ℕ) → old ≡ filled f 0 old
 unfolding filled run
@@ -38,7 +38,7 @@ unfolding filled
 filled-get f n k old h =
     let e : k < length (map f (run 0 n)) = omega (arith, length-run f 0 n) in
     let z : 0 + k ≡ k = omega arith in
-    List·getD-append (map f (run 0 n)) (drop n old) 0 k e ∙ get-run f 0 n k h ∙ ap f z
+    List·getD-append (map f (run 0 n)) (drop n old) 0 k e ∙ get-run f 0 0 n k h ∙ ap f z
 
 pub filled-over : (f : ℕ → ℕ) (m n : ℕ) (old : List ℕ) → m ≤ n → filled f n (filled f m old) ≡ filled f n old
 unfolding filled
@@ -64,9 +64,6 @@ filled-two f m n a b s old h e l p q =
     let k : m + 1 ≡ suc m = omega arith in
     ap (λ x. set (set x m a) (m + 1) b) h ∙ ap (λ x. set x (m + 1) b) (filled-set f m a old (omega arith) p) ∙
     ap (λ x. set (filled f (suc m) old) x b) k ∙ filled-set f (suc m) b old l q ∙ ap (λ x. filled f x old) (sym e)
-
-ruling-of : (m : ℕ) (b : Bool) → cond b held broken ≡ cond b held broken
-ruling-of m b = refl
 
 pub held-claim : (n i : ℕ) → i < 128 → claimAt (256 * n + 2 * i) ≡ Held n i
 held-claim n i h =

@@ -39,7 +39,7 @@ addIf b a c = cond b (addCell a c) a
 
 -- a rule's way by j
 abbrev pub wayBy : (Claim → ℕ) → Form → ℕ → Best
-wayBy g f j = offer (f .meets j) (sumCells g 1 (f .kids j)) (128 * f .number + j)
+wayBy g f j = offer (f .meets j) (sumCells g 1 (f .kids j)) (256 * f .number + j)
 
 unfoldable pub ofWays : (Claim → ℕ) → Form → List ℕ → Best
 ofWays g f [] = none

@@ -1,6 +1,6 @@
 // The least size found so far for a claim, and how it is reached.
 
-// A size, 0 for none, with the rule and the row j that give it in one number, 128 × rule + j.
+// A size, 0 for none, with the rule and the row j that give it in one number, 256 × rule + j.
 #[derive(Clone, Copy, Drop)]
 pub struct Best {
     pub size: u16,

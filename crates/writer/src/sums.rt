@@ -20,23 +20,23 @@ pub(crate) fn better(first: Best, second: Best) -> Best
 // A rule and a row j in one cell of the plan.
 fn packed(rule: u8, row: usize) -> u16
     requires { ⌜ rule ≤ 26 ⌝ ∗ ⌜ row < 128 ⌝ }
-    ensures { λ r. ⌜ r ≡ 128 * rule + row ⌝ }
+    ensures { λ r. ⌜ r ≡ 256 * rule + row ⌝ }
 {
-    128 * rule as u16 + row as u16
+    256 * rule as u16 + row as u16
 }
 
 // The rule and the row j of a cell of the plan.
 pub(crate) fn unpacked(code: u16) -> (u8, usize)
-    requires { ⌜ code < 32768 ⌝ }
-    ensures { λ r. ⌜ r .0 ≡ code / 128 ⌝ ∗ ⌜ r .1 ≡ code % 128 ⌝ }
+    ensures { λ r. ⌜ r .0 ≡ code / 256 ⌝ ∗ ⌜ r .1 ≡ code % 256 ⌝ }
 {
-    ((code / 128) as u8, (code % 128) as usize)
+    let [rule, row] = code.to_be_bytes();
+    (rule, row as usize)
 }
 
 // A way of this size by a rule and a row j, if its condition is met.
 pub(crate) fn offered(met: bool, size: u16, rule: u8, row: usize) -> Best
     requires { ⌜ rule ≤ 26 ⌝ ∗ ⌜ row < 128 ⌝ }
-    ensures { λ r. ⌜ r ≡ offer met size (128 * rule + row) ⌝ }
+    ensures { λ r. ⌜ r ≡ offer met size (256 * rule + row) ⌝ }
 {
     if met && size != 0 {
         Best {

@@ -1,7 +1,7 @@
 // Differences of times against a window, and where the rows inside it begin and end.
 ghost use mathlib.Core.Path.{_≡_};
 ghost use mathlib.Core.Bool.{true};
-ghost use Prim.Native.Nat.{ℕ, _-_, _<_, _≤_};
+ghost use Prim.Native.Nat.{ℕ, _+_, _-_, _<_, _≤_};
 ghost use lib.ListN.{length};
 ghost use Rattle.mtl.specs.Rows.{NeverFalls, timeAt};
 ghost use Rattle.mtl.specs.Windows.{inside as within, upTo, past};
@@ -78,4 +78,28 @@ pub(crate) fn end_within(window: Window, rows: &[Row], row: usize) -> usize
         Some(to) => first_from(rows, rows[row].time as u64 + to as u64 + 1),
         None => rows.len(),
     }
+}
+
+// The first row up to `row` that is not long enough before it, or the row after it.
+pub(crate) fn first_near(window: Window, rows: &[Row], row: usize) -> usize
+    requires { ⌜ row < length (now rows) ⌝ ∗ ⌜ length (now rows) ≤ 128 ⌝ ∗ ⌜ NeverFalls (now rows) ⌝ }
+    ensures high { λ r. ⌜ r ≤ row + 1 ⌝ }
+    ensures before { λ r. ⌜ ((j : ℕ) → j < r → window .from ≤ timeAt (now (rows .entry)) row - timeAt (now (rows .entry)) j) ⌝ }
+    ensures after { λ r. ⌜ ((j : ℕ) → r ≤ j → j ≤ row → timeAt (now (rows .entry)) row - timeAt (now (rows .entry)) j < window .from) ⌝ }
+{
+    first_from(
+        rows,
+        (rows[row].time as u64 + 1).saturating_sub(window.from as u64),
+    ).min(row + 1)
+}
+
+// The first row from `row` on that is long enough after it, or the number of rows.
+pub(crate) fn first_far(window: Window, rows: &[Row], row: usize) -> usize
+    requires { ⌜ row < length (now rows) ⌝ ∗ ⌜ length (now rows) ≤ 128 ⌝ ∗ ⌜ NeverFalls (now rows) ⌝ }
+    ensures low { λ r. ⌜ row ≤ r ⌝ }
+    ensures high { λ r. ⌜ r ≤ length (now (rows .entry)) ⌝ }
+    ensures before { λ r. ⌜ ((j : ℕ) → row ≤ j → j < r → timeAt (now (rows .entry)) j - timeAt (now (rows .entry)) row < window .from) ⌝ }
+    ensures after { λ r. ⌜ ((j : ℕ) → r ≤ j → j < length (now (rows .entry)) → window .from ≤ timeAt (now (rows .entry)) j - timeAt (now (rows .entry)) row) ⌝ }
+{
+    first_from(rows, rows[row].time as u64 + window.from as u64).max(row)
 }

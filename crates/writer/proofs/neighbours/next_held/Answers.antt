@@ -13,5 +13,5 @@ returns-then-row-rows c = next-held-last (cellIn (c .args .sizes .now)) (c .args
 pub returns : need.returns
 returns c =
     c .offered .ensures ∙
-    ap₂ (λ b s. offer b s (128 * 16 + 0)) (c .inside-met .ensures ∙ ap (inside (c .args .window)) (c .saturating-sub .ensures)) (c .plus .ensures ∙ ap (addCell 1) (c .held-cell .ensures)) ∙
+    ap₂ (λ b s. offer b s (256 * 16 + 0)) (c .inside-met .ensures ∙ ap (inside (c .args .window)) (c .saturating-sub .ensures)) (c .plus .ensures ∙ ap (addCell 1) (c .held-cell .ensures)) ∙
     next-held (cellIn (c .args .sizes .now)) (c .args .rows .now) (c .args .row) (c .args .window) (c .args .left) (omega (arith, c .pre .row-in))

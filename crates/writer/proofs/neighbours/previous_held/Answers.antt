@@ -13,5 +13,5 @@ returns-then-row-eq0 c = previous-held-first (cellIn (c .args .sizes .now)) (c .
 pub returns : need.returns
 returns c =
     c .offered .ensures ∙
-    ap₂ (λ b s. offer b s (128 * 11 + 0)) (c .inside-met .ensures ∙ ap (inside (c .args .window)) (c .saturating-sub .ensures)) (c .plus .ensures ∙ ap (addCell 1) (c .held-cell .ensures)) ∙
+    ap₂ (λ b s. offer b s (256 * 11 + 0)) (c .inside-met .ensures ∙ ap (inside (c .args .window)) (c .saturating-sub .ensures)) (c .plus .ensures ∙ ap (addCell 1) (c .held-cell .ensures)) ∙
     previous-held (cellIn (c .args .sizes .now)) (c .args .rows .now) (c .args .row) (c .args .window) (c .args .left) (omega arith)

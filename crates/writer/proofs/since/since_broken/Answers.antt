@@ -46,7 +46,7 @@ returns c =
     rest-before (cellIn (c .args .sizes .now)) (rule21 (c .args .rows .now) (c .args .row) (c .args .window) (c .args .left) (c .args .right)) (c .first-within-start .result) 1 (c .first-within-start .result + 1) (suc (c .args .row)) (omega arith) (omega arith)
     (λ j lo hi. second-false (leb 1 j && leb j (c .args .row)) _ (first-false (upTo (c .args .window .to) (timeAt (c .args .rows .now) (c .args .row) - timeAt (c .args .rows .now) (j - 1))) _ (past-not (c .args .window .to) _ (c .first-within-start .ensures .before (j - 1) (omega arith))))) ∙
     ap (λ x. ofWays (cellIn (c .args .sizes .now)) (rule21 (c .args .rows .now) (c .args .row) (c .args .window) (c .args .left) (c .args .right)) (run 1 x)) f)
-    (c .offered-2 .ensures ∙ ap (λ s. offer true s (128 * 22 + 0))
+    (c .offered-2 .ensures ∙ ap (λ s. offer true s (256 * 22 + 0))
     (c .plus-if-whole .ensures ∙ ap₂ (λ b x. addIf b (c .loop-j .all) x) (c .inside-first .ensures ∙ ap (inside (c .args .window)) (c .saturating-sub-2 .ensures)) (c .broken-cell-2 .ensures) ∙
     sum-down _ broken (c .args .right) (inBefore (c .args .rows .now) (c .args .row) (c .args .window)) (c .first-within-start .result) (c .loop-j .j) (suc (c .args .row)) (c .loop-j .all) (omega arith) (omega arith) (c .loop-j .inv .2) ∙
     ap (λ xs. sumCells (cellIn (c .args .sizes .now)) 1 (each broken (c .args .right) xs))
