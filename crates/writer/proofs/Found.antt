@@ -1,9 +1,11 @@
 -- A line that the table was asked for.
 use Prim.Native.Nat.{ℕ, _<_, _≤_}
-use mathlib.Core.Path.{_≡_, subst}
+use mathlib.Core.Path.{_≡_, subst, sym}
 use mathlib.Core.List.{List}
 use mathlib.Core.Bool.{Bool, true, false, cond}
 use native.Mathlib.Omega.{arith}
+use native.Mathlib.Decide.{decLt}
+use Rattle.std.proofs.shelf.Lists.{getD-past}
 use lib.ListN.{length}
 use lib.Dec.{T as Yes, ltb, ltb→lt, lt→ltb}
 use Rattle.std.specs.declared.option.Option.the-variants.{Some, None}
@@ -49,3 +51,6 @@ fit {T = T} cs n i l g e w h =
       row-in = h;
       rising = g .rising;
     }
+
+pub line-past : (T : Rules) (n : ℕ) → lineIn T n ≡ None → Mark 0 ≡ lineAt T n
+line-past T n e = sym (getD-past T n (Mark 0) (elim (decLt n (length T)) [ yes h ↦ absurd (line-none T n e h) | no h ↦ omega arith ]))

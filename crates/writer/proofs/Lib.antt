@@ -10,3 +10,8 @@ pub mod Making
 pub mod Taking
 pub mod Keeping
 pub mod Ranging
+pub mod Puts
+pub mod Named
+pub mod Joined
+pub mod Stepping
+pub mod Turns

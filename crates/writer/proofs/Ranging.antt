@@ -20,7 +20,8 @@ use Rattle.writer.specs.Passes.{farBefore, inBefore, farAfter, inAfter}
 use Rattle.writer.specs.Ways.{Way, Makes, Takes}
 use Rattle.writer.proofs.Keeping.{keep-in}
 use Rattle.writer.proofs.Outside.{past-outside, first-false}
-use Rattle.writer.proofs.Taking.{takes, not-broken}
+use Rattle.writer.proofs.Taking.{takes, unbroken}
+use Rattle.writer.proofs.Right.{below}
 
 in-true : (v : Window) (d : ℕ) → v .from ≤ d → upTo (v .to) d ≡ true → inside v d ≡ true
 in-true v d h u = ap₂ (λ a b. a && b) (le-leb (v .from) d h) u
@@ -37,7 +38,7 @@ module _ (w : Way) (code rule row : ℕ) (ruled : rule ≡ code / 256) (rowed : 
         Takes w broken code (forms R i (Since v l r))
     unfolding forms
     by-21 k e = takes w broken code (forms R i (Since v l r)) (k .ruled ∙ ruled) (
-      (λ u. absurd (not-broken u)),
+      (λ u. absurd (unbroken u)),
       (
         (λ u j o b n m.
             ap (λ xs. Broken l j ∷ each broken r xs) (rows-21 j (omega arith)) ∙
@@ -51,7 +52,7 @@ module _ (w : Way) (code rule row : ℕ) (ruled : rule ≡ code / 256) (rowed : 
         Makes w rule (λ q. each q r (run lo (near - lo))) → rule ≡ 22 → Takes w broken code (forms R i (Since v l r))
     unfolding forms range
     by-22 lo h outside within z k e = takes w broken code (forms R i (Since v l r)) (k .ruled ∙ ruled) (
-      (λ u. absurd (not-broken u)),
+      (λ u. absurd (unbroken u)),
       (
         (λ u j o b n m. absurd (omega arith)),
         (
@@ -69,7 +70,7 @@ module _ (w : Way) (code rule row : ℕ) (ruled : rule ≡ code / 256) (rowed : 
   pub by-23 : Makes w rule (λ q. []) → (rule ≡ 21 → ⊥) → (rule ≡ 22 → ⊥) → Takes w broken code (forms R i (Since v l r))
   unfolding forms
   by-23 k e f = takes w broken code (forms R i (Since v l r)) (k .ruled ∙ ruled) (
-    (λ u. absurd (not-broken u)),
+    (λ u. absurd (unbroken u)),
     ((λ u j o b n m. absurd (e (ruled ∙ n))), ((λ u j o b n m. absurd (f (ruled ∙ n))), ((λ u j o b n m. sym (k .kids-are broken)), tt))),
   )
 
@@ -84,7 +85,7 @@ module _ (w : Way) (code rule row : ℕ) (ruled : rule ≡ code / 256) (rowed : 
         Takes w broken code (forms R i (Until v l r))
     unfolding forms
     by-25 k e = takes w broken code (forms R i (Until v l r)) (k .ruled ∙ ruled) (
-      (λ u. absurd (not-broken u)),
+      (λ u. absurd (unbroken u)),
       (
         (λ u j o b n m.
             ap (λ xs. Broken l j ∷ each broken r xs) (rows-25 j o b) ∙
@@ -98,7 +99,7 @@ module _ (w : Way) (code rule row : ℕ) (ruled : rule ≡ code / 256) (rowed : 
         Makes w rule (λ q. each q r (run from (end - from))) → (rule ≡ 25 → ⊥) → Takes w broken code (forms R i (Until v l r))
     unfolding forms
     by-26 end h z within outside k e = takes w broken code (forms R i (Until v l r)) (k .ruled ∙ ruled) (
-      (λ u. absurd (not-broken u)),
+      (λ u. absurd (unbroken u)),
       (
         (λ u j o b n m. absurd (e (ruled ∙ n))),
         (

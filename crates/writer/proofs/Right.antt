@@ -47,7 +47,7 @@ each-all : (P : Claim → Type 0) (r : Ruling) (n : ℕ) (ks : List ℕ) → ((k
 each-all P r n [] h = tt
 each-all P r n (k ∷ ks) h = (h k, each-all P r n ks h)
 
-below : (R : List Row) (i n : ℕ) (l : Line) → Earlier n l → AllOf (λ (f : Form). (j : ℕ) → AllOf (λ (k : Claim). k .line < n) (f .kids j)) (forms R i l)
+pub below : (R : List Row) (i n : ℕ) (l : Line) → Earlier n l → AllOf (λ (f : Form). (j : ℕ) → AllOf (λ (k : Claim). k .line < n) (f .kids j)) (forms R i l)
 unfolding forms
 below R i n (Mark m) h = (λ j. tt, (λ j. tt, tt))
 below R i n (Not l) h = (λ j. (h, tt), (λ j. (h, tt), tt))

@@ -26,69 +26,69 @@ takes w r code (f ∷ fs) e h s (by-this j u a o b k q) =
     q ∙ ap₂ by (sym (e ∙ p)) (h .0 u j o b p m)
 takes w r code (f ∷ fs) e h s (by-later n) = takes w r code fs e (h .1) s n
 
-pub not-held : broken ≡ held → ⊥
-not-held e = let z : _≡_ {A = ℕ} 0 1 = cc in absurd (omega arith)
+pub unheld : broken ≡ held → ⊥
+unheld e = let z : _≡_ {A = ℕ} 0 1 = cc in absurd (omega arith)
 
-pub not-broken : held ≡ broken → ⊥
-not-broken e = let z : _≡_ {A = ℕ} 0 1 = cc in absurd (omega arith)
+pub unbroken : held ≡ broken → ⊥
+unbroken e = let z : _≡_ {A = ℕ} 0 1 = cc in absurd (omega arith)
 
 -- by the rule and the row that the code has
 module _ (w : Way) (code rule row : ℕ) (ruled : rule ≡ code / 256) (rowed : row ≡ code % 256) (R : List Row) (i : ℕ) where
   pub mark-held : (m : ℕ) → Makes w rule (λ q. []) → Takes w held code (forms R i (Mark m))
   unfolding forms
-  mark-held m k = takes w held code (forms R i (Mark m)) (k .ruled ∙ ruled) ((λ u j o b n m. sym (k .kids-are held)), ((λ u. absurd (not-held u)), tt))
+  mark-held m k = takes w held code (forms R i (Mark m)) (k .ruled ∙ ruled) ((λ u j o b n m. sym (k .kids-are held)), ((λ u. absurd (unheld u)), tt))
 
   pub mark-broken : (m : ℕ) → Makes w rule (λ q. []) → Takes w broken code (forms R i (Mark m))
   unfolding forms
-  mark-broken m k = takes w broken code (forms R i (Mark m)) (k .ruled ∙ ruled) ((λ u. absurd (not-broken u)), ((λ u j o b n m. sym (k .kids-are broken)), tt))
+  mark-broken m k = takes w broken code (forms R i (Mark m)) (k .ruled ∙ ruled) ((λ u. absurd (unbroken u)), ((λ u j o b n m. sym (k .kids-are broken)), tt))
 
   pub and-held : (l r : ℕ) → Makes w rule (λ q. claim l i q ∷ claim r i q ∷ []) → Takes w held code (forms R i (And l r))
   unfolding forms
-  and-held l r k = takes w held code (forms R i (And l r)) (k .ruled ∙ ruled) ((λ u j o b n m. sym (k .kids-are held)), ((λ u. absurd (not-held u)), ((λ u. absurd (not-held u)), tt)))
+  and-held l r k = takes w held code (forms R i (And l r)) (k .ruled ∙ ruled) ((λ u j o b n m. sym (k .kids-are held)), ((λ u. absurd (unheld u)), ((λ u. absurd (unheld u)), tt)))
 
   pub and-left : (l r : ℕ) → Makes w rule (λ q. claim l i q ∷ []) → rule ≡ 6 → Takes w broken code (forms R i (And l r))
   unfolding forms
-  and-left l r k h0 = takes w broken code (forms R i (And l r)) (k .ruled ∙ ruled) ((λ u. absurd (not-broken u)), ((λ u j o b n m. sym (k .kids-are broken)), ((λ u j o b n m. absurd (omega arith)), tt)))
+  and-left l r k h0 = takes w broken code (forms R i (And l r)) (k .ruled ∙ ruled) ((λ u. absurd (unbroken u)), ((λ u j o b n m. sym (k .kids-are broken)), ((λ u j o b n m. absurd (omega arith)), tt)))
 
   pub and-right : (l r : ℕ) → Makes w rule (λ q. claim r i q ∷ []) → (rule ≡ 6 → ⊥) → Takes w broken code (forms R i (And l r))
   unfolding forms
-  and-right l r k h0 = takes w broken code (forms R i (And l r)) (k .ruled ∙ ruled) ((λ u. absurd (not-broken u)), ((λ u j o b n m. absurd (h0 (ruled ∙ n))), ((λ u j o b n m. sym (k .kids-are broken)), tt)))
+  and-right l r k h0 = takes w broken code (forms R i (And l r)) (k .ruled ∙ ruled) ((λ u. absurd (unbroken u)), ((λ u j o b n m. absurd (h0 (ruled ∙ n))), ((λ u j o b n m. sym (k .kids-are broken)), tt)))
 
   pub or-left : (l r : ℕ) → Makes w rule (λ q. claim l i q ∷ []) → rule ≡ 8 → Takes w held code (forms R i (Or l r))
   unfolding forms
-  or-left l r k h0 = takes w held code (forms R i (Or l r)) (k .ruled ∙ ruled) ((λ u j o b n m. sym (k .kids-are held)), ((λ u j o b n m. absurd (omega arith)), ((λ u. absurd (not-held u)), tt)))
+  or-left l r k h0 = takes w held code (forms R i (Or l r)) (k .ruled ∙ ruled) ((λ u j o b n m. sym (k .kids-are held)), ((λ u j o b n m. absurd (omega arith)), ((λ u. absurd (unheld u)), tt)))
 
   pub or-right : (l r : ℕ) → Makes w rule (λ q. claim r i q ∷ []) → (rule ≡ 8 → ⊥) → Takes w held code (forms R i (Or l r))
   unfolding forms
-  or-right l r k h0 = takes w held code (forms R i (Or l r)) (k .ruled ∙ ruled) ((λ u j o b n m. absurd (h0 (ruled ∙ n))), ((λ u j o b n m. sym (k .kids-are held)), ((λ u. absurd (not-held u)), tt)))
+  or-right l r k h0 = takes w held code (forms R i (Or l r)) (k .ruled ∙ ruled) ((λ u j o b n m. absurd (h0 (ruled ∙ n))), ((λ u j o b n m. sym (k .kids-are held)), ((λ u. absurd (unheld u)), tt)))
 
   pub or-broken : (l r : ℕ) → Makes w rule (λ q. claim l i q ∷ claim r i q ∷ []) → Takes w broken code (forms R i (Or l r))
   unfolding forms
-  or-broken l r k = takes w broken code (forms R i (Or l r)) (k .ruled ∙ ruled) ((λ u. absurd (not-broken u)), ((λ u. absurd (not-broken u)), ((λ u j o b n m. sym (k .kids-are broken)), tt)))
+  or-broken l r k = takes w broken code (forms R i (Or l r)) (k .ruled ∙ ruled) ((λ u. absurd (unbroken u)), ((λ u. absurd (unbroken u)), ((λ u j o b n m. sym (k .kids-are broken)), tt)))
 
   pub previous-held : (v : Window) (l x : ℕ) → Makes w rule (λ q. claim l x q ∷ []) → x ≡ i - 1 → Takes w held code (forms R i (Previous v l))
   unfolding forms
-  previous-held v l x k h0 = takes w held code (forms R i (Previous v l)) (k .ruled ∙ ruled) ((λ u j o b n m. ap (λ y. claim l y held ∷ []) (sym h0) ∙ sym (k .kids-are held)), ((λ u. absurd (not-held u)), ((λ u. absurd (not-held u)), ((λ u. absurd (not-held u)), ((λ u. absurd (not-held u)), tt)))))
+  previous-held v l x k h0 = takes w held code (forms R i (Previous v l)) (k .ruled ∙ ruled) ((λ u j o b n m. ap (λ y. claim l y held ∷ []) (sym h0) ∙ sym (k .kids-are held)), ((λ u. absurd (unheld u)), ((λ u. absurd (unheld u)), ((λ u. absurd (unheld u)), ((λ u. absurd (unheld u)), tt)))))
 
   pub previous-one : (v : Window) (l x : ℕ) → Makes w rule (λ q. claim l x q ∷ []) → x ≡ i - 1 → rule ≡ 12 → Takes w broken code (forms R i (Previous v l))
   unfolding forms
-  previous-one v l x k h0 h1 = takes w broken code (forms R i (Previous v l)) (k .ruled ∙ ruled) ((λ u. absurd (not-broken u)), ((λ u j o b n m. ap (λ y. claim l y broken ∷ []) (sym h0) ∙ sym (k .kids-are broken)), ((λ u j o b n m. absurd (omega arith)), ((λ u j o b n m. absurd (omega arith)), ((λ u j o b n m. absurd (omega arith)), tt)))))
+  previous-one v l x k h0 h1 = takes w broken code (forms R i (Previous v l)) (k .ruled ∙ ruled) ((λ u. absurd (unbroken u)), ((λ u j o b n m. ap (λ y. claim l y broken ∷ []) (sym h0) ∙ sym (k .kids-are broken)), ((λ u j o b n m. absurd (omega arith)), ((λ u j o b n m. absurd (omega arith)), ((λ u j o b n m. absurd (omega arith)), tt)))))
 
   pub previous-leaf : (v : Window) (l : ℕ) → Makes w rule (λ q. []) → (rule ≡ 12 → ⊥) → Takes w broken code (forms R i (Previous v l))
   unfolding forms
-  previous-leaf v l k h0 = takes w broken code (forms R i (Previous v l)) (k .ruled ∙ ruled) ((λ u. absurd (not-broken u)), ((λ u j o b n m. absurd (h0 (ruled ∙ n))), ((λ u j o b n m. sym (k .kids-are broken)), ((λ u j o b n m. sym (k .kids-are broken)), ((λ u j o b n m. sym (k .kids-are broken)), tt)))))
+  previous-leaf v l k h0 = takes w broken code (forms R i (Previous v l)) (k .ruled ∙ ruled) ((λ u. absurd (unbroken u)), ((λ u j o b n m. absurd (h0 (ruled ∙ n))), ((λ u j o b n m. sym (k .kids-are broken)), ((λ u j o b n m. sym (k .kids-are broken)), ((λ u j o b n m. sym (k .kids-are broken)), tt)))))
 
   pub next-held : (v : Window) (l : ℕ) → Makes w rule (λ q. claim l (i + 1) q ∷ []) → Takes w held code (forms R i (Next v l))
   unfolding forms
-  next-held v l k = takes w held code (forms R i (Next v l)) (k .ruled ∙ ruled) ((λ u j o b n m. sym (k .kids-are held)), ((λ u. absurd (not-held u)), ((λ u. absurd (not-held u)), ((λ u. absurd (not-held u)), tt))))
+  next-held v l k = takes w held code (forms R i (Next v l)) (k .ruled ∙ ruled) ((λ u j o b n m. sym (k .kids-are held)), ((λ u. absurd (unheld u)), ((λ u. absurd (unheld u)), ((λ u. absurd (unheld u)), tt))))
 
   pub next-one : (v : Window) (l : ℕ) → Makes w rule (λ q. claim l (i + 1) q ∷ []) → rule ≡ 17 → Takes w broken code (forms R i (Next v l))
   unfolding forms
-  next-one v l k h0 = takes w broken code (forms R i (Next v l)) (k .ruled ∙ ruled) ((λ u. absurd (not-broken u)), ((λ u j o b n m. sym (k .kids-are broken)), ((λ u j o b n m. absurd (omega arith)), ((λ u j o b n m. absurd (omega arith)), tt))))
+  next-one v l k h0 = takes w broken code (forms R i (Next v l)) (k .ruled ∙ ruled) ((λ u. absurd (unbroken u)), ((λ u j o b n m. sym (k .kids-are broken)), ((λ u j o b n m. absurd (omega arith)), ((λ u j o b n m. absurd (omega arith)), tt))))
 
   pub next-leaf : (v : Window) (l : ℕ) → Makes w rule (λ q. []) → (rule ≡ 17 → ⊥) → Takes w broken code (forms R i (Next v l))
   unfolding forms
-  next-leaf v l k h0 = takes w broken code (forms R i (Next v l)) (k .ruled ∙ ruled) ((λ u. absurd (not-broken u)), ((λ u j o b n m. absurd (h0 (ruled ∙ n))), ((λ u j o b n m. sym (k .kids-are broken)), ((λ u j o b n m. sym (k .kids-are broken)), tt))))
+  next-leaf v l k h0 = takes w broken code (forms R i (Next v l)) (k .ruled ∙ ruled) ((λ u. absurd (unbroken u)), ((λ u j o b n m. absurd (h0 (ruled ∙ n))), ((λ u j o b n m. sym (k .kids-are broken)), ((λ u j o b n m. sym (k .kids-are broken)), tt))))
 
   since-kids : (l r x j : ℕ) → x ≡ j → Held r j ∷ each held l (range (j + 1) i) ≡ claim r x held ∷ each held l (run (x + 1) (i + 1 - (x + 1)))
   unfolding range
@@ -98,8 +98,8 @@ module _ (w : Way) (code rule row : ℕ) (ruled : rule ≡ code / 256) (rowed : 
 
   pub since-held : (v : Window) (l r : ℕ) → Makes w rule (λ q. claim r row q ∷ each q l (run (row + 1) (i + 1 - (row + 1)))) → Takes w held code (forms R i (Since v l r))
   unfolding forms
-  since-held v l r k = takes w held code (forms R i (Since v l r)) (k .ruled ∙ ruled) ((λ u j o b n m. since-kids l r row j (rowed ∙ m) ∙ sym (k .kids-are held)), ((λ u. absurd (not-held u)), ((λ u. absurd (not-held u)), ((λ u. absurd (not-held u)), tt))))
+  since-held v l r k = takes w held code (forms R i (Since v l r)) (k .ruled ∙ ruled) ((λ u j o b n m. since-kids l r row j (rowed ∙ m) ∙ sym (k .kids-are held)), ((λ u. absurd (unheld u)), ((λ u. absurd (unheld u)), ((λ u. absurd (unheld u)), tt))))
 
   pub until-held : (v : Window) (l r : ℕ) → Makes w rule (λ q. claim r row q ∷ each q l (run i (row - i))) → Takes w held code (forms R i (Until v l r))
   unfolding forms
-  until-held v l r k = takes w held code (forms R i (Until v l r)) (k .ruled ∙ ruled) ((λ u j o b n m. ap (λ y. claim r y held ∷ each held l (run i (y - i))) (sym (rowed ∙ m)) ∙ sym (k .kids-are held)), ((λ u. absurd (not-held u)), ((λ u. absurd (not-held u)), tt)))
+  until-held v l r k = takes w held code (forms R i (Until v l r)) (k .ruled ∙ ruled) ((λ u j o b n m. ap (λ y. claim r y held ∷ each held l (run i (y - i))) (sym (rowed ∙ m)) ∙ sym (k .kids-are held)), ((λ u. absurd (unheld u)), ((λ u. absurd (unheld u)), tt)))

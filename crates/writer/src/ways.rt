@@ -1,13 +1,11 @@
 // From a cell of the plan to the way that it stands for.
 ghost use mathlib.Core.Path.{_≡_};
 ghost use mathlib.Core.List.{List};
-ghost use mathlib.Core.Bool.{true};
-ghost use Prim.Native.Nat.{ℕ, _-_, _<_, _≤_};
-ghost use lib.Dec.{leb, ltb};
-ghost use lib.ListN.{length};
+ghost use Prim.Native.Nat.{ℕ, _<_};
 ghost use Rattle.std.specs.declared.option.Option.the-variants.{None};
 ghost use Rattle.mtl.specs.Forms.{forms};
-ghost use Rattle.mtl.specs.Rows.{timeAt};
+ghost use Rattle.mtl.specs.Lines.{lineAt};
+ghost use Rattle.mtl.specs.Tables.{linesOf};
 ghost use Rattle.mtl.specs.declared.line.Line.the-variants.{Since as since, Until as until};
 ghost use Rattle.mtl.specs.declared.row.Row.{Row as row-of};
 ghost use Rattle.mtl.specs.declared.ruling.Ruling.the-variants.{Held as held, Broken as broken};
@@ -27,6 +25,17 @@ use crate::windows::first_within;
 use mtl::line::Line;
 use mtl::line::Window;
 use mtl::row::Row;
+use mtl::table::Table;
+
+// A line of the table.
+pub(crate) fn line_at(table: &Table, line: u8) -> Line
+    ensures { λ r. ⌜ r ≡ lineAt (linesOf (now (table .entry))) line ⌝ }
+{
+    match table.line(line as usize) {
+        Some(found) => found,
+        None => Line::Mark(0),
+    }
+}
 
 // The operand of a not.
 pub(crate) fn negated(line: Line) -> Option<u8>
