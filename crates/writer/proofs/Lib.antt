@@ -15,3 +15,4 @@ pub mod Named
 pub mod Joined
 pub mod Stepping
 pub mod Turns
+pub mod Copied

@@ -8,7 +8,7 @@ use lib.ListN.{length, getD}
 use lib.Dec.{T as Yes, leb, ltb, ltb→lt, lt→ltb, leb→le, nleb→lt}
 use native.Mathlib.Decide.{decLt}
 use Rattle.mtl.specs.Cells.{addCell, lowerCell, sumCells, bestCell, firstOf}
-use Rattle.mtl.specs.Claims.{each, Held, Broken, sameRuling}
+use Rattle.mtl.specs.Claims.{claim, each, Held, Broken, sameRuling}
 use Rattle.mtl.specs.Forms.{Step, by, guard, forEach, Form, forms, waysOf, waysIn, steps}
 use Rattle.mtl.specs.Lines.{Rules, lineAt, WellFormed}
 use Rattle.mtl.specs.Ranges.{run}
@@ -26,6 +26,7 @@ use Rattle.writer.specs.Tables.{bestBy, cellOf, sizeAt, codeAt, filled}
 use Rattle.writer.proofs.Offers.{true-of}
 use Rattle.writer.proofs.Reading.{read-held, read-broken, read-none}
 use Rattle.writer.proofs.Stored.{filled-get, held-claim, broken-claim}
+use Rattle.mtl.specs.Buffers.{claimAt}
 
 pub best-in : (g : Claim → ℕ) (T : Rules) (R : List Row) (n i : ℕ) (r : Ruling) → n < length T → i < length R →
     bestBy g T R (record { line = n; row = i; ruling = r }) ≡ ofForms g r (forms R i (lineAt T n))
@@ -168,6 +169,23 @@ best-size g T R c = go (ltb (c .line) (length T)) (ltb (c .row) (length R))
     go true false = refl
     go false b = refl
 
+-- a claim's cell in a table that is filled beyond it
+read-filled : (f : ℕ → ℕ) (p : ℕ) (s old : List ℕ) → s ≡ filled f p old → (k : Claim) → k .row < 128 → 256 * k .line + 256 ≤ p → (q : ℕ) × (cellIn s k ≡ f q) × (claimAt q ≡ k)
+read-filled f p s old e k h l = at (k .ruling) refl
+  where
+    at : (r : Ruling) → k .ruling ≡ r → (q : ℕ) × (cellIn s k ≡ f q) × (claimAt q ≡ k)
+    at held u =
+        let same = ap (λ x. claim (k .line) (k .row) x) u in
+        (256 * k .line + 2 * k .row,
+          ap (cellIn s) same ∙ sym (read-held s (k .line) (k .row) h) ∙ ap (λ x. getD x (256 * k .line + 2 * k .row) 0) e ∙ filled-get f p (256 * k .line + 2 * k .row) old (omega arith),
+          held-claim (k .line) (k .row) h ∙ sym same)
+    at broken u =
+        let same = ap (λ x. claim (k .line) (k .row) x) u in
+        let z : 256 * k .line + (2 * k .row + 1) ≡ suc (256 * k .line + 2 * k .row) = omega arith in
+        (suc (256 * k .line + 2 * k .row),
+          ap (cellIn s) same ∙ sym (read-broken s (k .line) (k .row) h) ∙ ap₂ (λ x y. getD x y 0) e z ∙ filled-get f p (suc (256 * k .line + 2 * k .row)) old (omega arith),
+          broken-claim (k .line) (k .row) h ∙ sym same)
+
 module _ (T : Rules) (wf : WellFormed T) (R : List Row) where
   -- the best way has the size of the shortest certificate
   pub size-is : (c : Claim) → bestBy (cellOf T R) T R c .size ≡ cellOf T R c
@@ -177,20 +195,18 @@ module _ (T : Rules) (wf : WellFormed T) (R : List Row) where
   no-row k h = sym (size-is k) ∙ ap (λ (b : Best). b .size) (sym (best-out (cellOf T R) T R (k .line) (k .row) (k .ruling) (λ _. h)))
 
   -- cells of earlier lines, read off the table as it is filled
-  read-same : length R ≤ 128 → (n p : ℕ) (s old : List ℕ) → s ≡ filled (sizeAt T R) p old → 256 * n ≤ p → (k : Claim) → k .line < n → cellIn s k ≡ cellOf T R k
+  pub read-same : length R ≤ 128 → (n p : ℕ) (s old : List ℕ) → s ≡ filled (sizeAt T R) p old → 256 * n ≤ p → (k : Claim) → k .line < n → cellIn s k ≡ cellOf T R k
   unfolding sizeAt
-  read-same few n p s old e h k l = elim (decLt (k .row) 128) [ yes q ↦ at (k .ruling) q refl | no q ↦ sym (read-none s (k .line) (k .row) (k .ruling) (omega arith)) ∙ sym (no-row k (omega arith)) ]
-    where
-      at : (r : Ruling) → k .row < 128 → k .ruling ≡ r → cellIn s k ≡ cellOf T R k
-      at held q f =
-          ap (λ x. cellIn s (record { line = k .line; row = k .row; ruling = x })) f ∙ sym (read-held s (k .line) (k .row) q) ∙ ap (λ x. getD x (256 * k .line + 2 * k .row) 0) e ∙
-          filled-get (sizeAt T R) p (256 * k .line + 2 * k .row) old (omega arith) ∙ ap (cellOf T R) (held-claim (k .line) (k .row) q) ∙
-          ap (λ x. cellOf T R (record { line = k .line; row = k .row; ruling = x })) (sym f)
-      at broken q f =
-          let z : 256 * k .line + (2 * k .row + 1) ≡ suc (256 * k .line + 2 * k .row) = omega arith in
-          ap (λ x. cellIn s (record { line = k .line; row = k .row; ruling = x })) f ∙ sym (read-broken s (k .line) (k .row) q) ∙ ap₂ (λ x y. getD x y 0) e z ∙
-          filled-get (sizeAt T R) p (suc (256 * k .line + 2 * k .row)) old (omega arith) ∙ ap (cellOf T R) (broken-claim (k .line) (k .row) q) ∙
-          ap (λ x. cellOf T R (record { line = k .line; row = k .row; ruling = x })) (sym f)
+  read-same few n p s old e h k l =
+      elim (decLt (k .row) 128) [
+        | yes q ↦ let r = read-filled (sizeAt T R) p s old e k q (omega arith) in r .1 ∙ ap (cellOf T R) (r .2)
+        | no q ↦ sym (read-none s (k .line) (k .row) (k .ruling) (omega arith)) ∙ sym (no-row k (omega arith))
+      ]
+
+  -- the cells of a filled plan
+  pub read-code : (s old : List ℕ) → s ≡ filled (codeAt T R) 8192 old → (k : Claim) → k .line < 32 → k .row < 128 → cellIn s k ≡ bestBy (cellOf T R) T R k .code
+  unfolding codeAt
+  read-code s old e k l q = let r = read-filled (codeAt T R) 8192 s old e k q (omega arith) in r .1 ∙ ap (λ x. bestBy (cellOf T R) T R x .code) (r .2)
 
   pub best-right : length R ≤ 128 → (p : ℕ) (s old : List ℕ) (c : Claim) → s ≡ filled (sizeAt T R) p old → 256 * c .line ≤ p → bestBy (cellIn s) T R c ≡ bestBy (cellOf T R) T R c
   best-right few p s old c e h = best-same (cellIn s) (cellOf T R) (c .line) (read-same few (c .line) p s old e h) T R wf c refl

@@ -13,3 +13,4 @@ mod way;
 mod ways;
 mod windows;
 mod write;
+mod log_rows;
