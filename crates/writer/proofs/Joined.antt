@@ -24,15 +24,16 @@ bytes-both : (a b : List Node) → bytes (a ++ b) ≡ bytes a ++ bytes b
 bytes-both [] b = refl
 bytes-both (d ∷ ds) b = ap (λ xs. d .line ∷ d .rule ∷ d .row / 256 ∷ d .row % 256 ∷ d .count / 256 ∷ d .count % 256 ∷ xs) (bytes-both ds b)
 
--- certificates that stand one after another, each by itself
 module _ (T : Rules) (wf : WellFormed T) (R : List Row) where
-  filled : (c : Claim) → Filled (certificate T R c)
-  filled c = subst Filled (sym (certificate-at T wf R c)) (filled-any (certificate T R) c (steps T R c))
+  -- no certificate is empty
+  pub nonempty : (c : Claim) → Filled (certificate T R c)
+  nonempty c = subst Filled (sym (certificate-at T wf R c)) (filled-any (certificate T R) c (steps T R c))
 
+  -- certificates that stand one after another, each by itself
   parts : (cs : List Claim) (ns : List Node) → ofAll (certificate T R) cs ≡ Some ns → length ns ≤ 4096 → AllOf (Short T R) cs × (bytes ns ≡ allBytes T R cs)
   unfolding ofAll allBytes certBytes
   parts [] ns e h = (tt, let z : [] ≡ ns = cc in ap bytes (sym z))
-  parts (c ∷ cs) ns e h = go (certificate T R c) (ofAll (certificate T R) cs) refl refl (filled c) e (λ b q l. parts cs b q l)
+  parts (c ∷ cs) ns e h = go (certificate T R c) (ofAll (certificate T R) cs) refl refl (nonempty c) e (λ b q l. parts cs b q l)
     where
       go : (o p : Option (List Node)) → certificate T R c ≡ o → ofAll (certificate T R) cs ≡ p → Filled o → chained o p ≡ Some ns →
           ((b : List Node) → ofAll (certificate T R) cs ≡ Some b → length b ≤ 4096 → AllOf (Short T R) cs × (bytes b ≡ allBytes T R cs)) →

@@ -16,3 +16,6 @@ pub mod Joined
 pub mod Stepping
 pub mod Turns
 pub mod Copied
+pub mod Asking
+pub mod Left
+pub mod Sizing

@@ -175,16 +175,18 @@ read-filled f p s old e k h l = at (k .ruling) refl
   where
     at : (r : Ruling) → k .ruling ≡ r → (q : ℕ) × (cellIn s k ≡ f q) × (claimAt q ≡ k)
     at held u =
-        let same = ap (λ x. claim (k .line) (k .row) x) u in
-        (256 * k .line + 2 * k .row,
+        let same = ap (λ x. claim (k .line) (k .row) x) u in (
+          256 * k .line + 2 * k .row,
           ap (cellIn s) same ∙ sym (read-held s (k .line) (k .row) h) ∙ ap (λ x. getD x (256 * k .line + 2 * k .row) 0) e ∙ filled-get f p (256 * k .line + 2 * k .row) old (omega arith),
-          held-claim (k .line) (k .row) h ∙ sym same)
+          held-claim (k .line) (k .row) h ∙ sym same,
+        )
     at broken u =
         let same = ap (λ x. claim (k .line) (k .row) x) u in
-        let z : 256 * k .line + (2 * k .row + 1) ≡ suc (256 * k .line + 2 * k .row) = omega arith in
-        (suc (256 * k .line + 2 * k .row),
+        let z : 256 * k .line + (2 * k .row + 1) ≡ suc (256 * k .line + 2 * k .row) = omega arith in (
+          suc (256 * k .line + 2 * k .row),
           ap (cellIn s) same ∙ sym (read-broken s (k .line) (k .row) h) ∙ ap₂ (λ x y. getD x y 0) e z ∙ filled-get f p (suc (256 * k .line + 2 * k .row)) old (omega arith),
-          broken-claim (k .line) (k .row) h ∙ sym same)
+          broken-claim (k .line) (k .row) h ∙ sym same,
+        )
 
 module _ (T : Rules) (wf : WellFormed T) (R : List Row) where
   -- the best way has the size of the shortest certificate

@@ -2,10 +2,13 @@
 mod best;
 mod cells;
 mod choose;
+pub mod fault;
 mod fill;
 mod kids;
+mod log_rows;
 mod neighbours;
 mod nodes;
+pub mod settle;
 mod since;
 mod sums;
 mod until;
@@ -13,4 +16,3 @@ mod way;
 mod ways;
 mod windows;
 mod write;
-mod log_rows;

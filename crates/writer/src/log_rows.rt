@@ -51,7 +51,10 @@ fn row_at<L: Readable>(log: &L, row: usize) -> Row
     requires { ⌜ row < length (L·Readable .rows (now log)) ⌝ }
     ensures { λ r. ⌜ r ≡ rowAt (L·Readable .rows (now (log .entry))) row ⌝ }
 {
-    Row { time: time_at(log, row), marks: marks_at(log, row) }
+    Row {
+        time: time_at(log, row),
+        marks: marks_at(log, row),
+    }
 }
 
 // Copies the log's rows to the front of `rows`.
