@@ -3,8 +3,8 @@ use Prim.Native.Nat.{ℕ, zero, suc, _*_, _<_, _≤_, min}
 use mathlib.Core.Path.{_≡_, refl, sym, ap, ap₂, subst, _∙_}
 use mathlib.Core.List.{List, [], _∷_}
 use mathlib.Core.Bool.{Bool, true, false, _&&_}
-use mathlib.Core.Logic.{_⊎_, inl, inr}
 use native.Mathlib.Omega.{arith}
+use native.Mathlib.Decide.{decLt}
 use lib.ListN.{length}
 use lib.Dec.{leb, ltb}
 use Rattle.std.specs.declared.option.Option.{Option}
@@ -101,16 +101,18 @@ module _ (T : Rules) (R : List Row) (n i : ℕ) where
           sym (by-asked (settlement T R n i) refl ∙ (λ k. asks (settlement T R n i) (a k) (b k) (leb 8192 (ls .sizes) && leb 8192 (ls .plan))))
 
       module _ (row : i < length R) where
-        pub no-room : (ls .sizes < 8192) ⊎ (ls .plan < 8192) → Err 23 ≡ settleAnswer T R n i ls
+        pub no-room : min (ls .sizes) (ls .plan) < 8192 → Err 23 ≡ settleAnswer T R n i ls
         no-room h =
             let a = lt-ltb n (length T) line in
             let b = lt-ltb i (length R) row in
             let c = small h in
             sym (by-asked (settlement T R n i) refl ∙ (λ k. asks (settlement T R n i) (a k) (b k) (c k)))
           where
-            small : (ls .sizes < 8192) ⊎ (ls .plan < 8192) → (leb 8192 (ls .sizes) && leb 8192 (ls .plan)) ≡ false
-            small (inl h) = first-false (leb 8192 (ls .sizes)) (leb 8192 (ls .plan)) (lt-leb 8192 (ls .sizes) h)
-            small (inr h) = second-false (leb 8192 (ls .sizes)) (leb 8192 (ls .plan)) (lt-leb 8192 (ls .plan) h)
+            small : min (ls .sizes) (ls .plan) < 8192 → (leb 8192 (ls .sizes) && leb 8192 (ls .plan)) ≡ false
+            small h = elim (decLt (ls .sizes) 8192) [
+              | yes k ↦ first-false (leb 8192 (ls .sizes)) (leb 8192 (ls .plan)) (lt-leb 8192 (ls .sizes) k)
+              | no k ↦ second-false (leb 8192 (ls .sizes)) (leb 8192 (ls .plan)) (lt-leb 8192 (ls .plan) (omega arith))
+            ]
 
         module _ (wide : 8192 ≤ ls .sizes) (deep : 8192 ≤ ls .plan) where
           asked-on : (o : Option Settlement) → settlement T R n i ≡ o → settleAnswer T R n i ls ≡ asks o true true true

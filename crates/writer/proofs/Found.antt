@@ -5,7 +5,8 @@ use mathlib.Core.List.{List}
 use mathlib.Core.Bool.{Bool, true, false, cond}
 use native.Mathlib.Omega.{arith}
 use native.Mathlib.Decide.{decLt}
-use Rattle.std.proofs.shelf.Lists.{getD-past}
+use Rattle.std.proofs.shelf.Lists.{getD-past, length-take-le}
+use Rattle.mtl.specs.declared.table.Table.{Table}
 use lib.ListN.{length}
 use lib.Dec.{T as Yes, ltb, ltb→lt, lt→ltb}
 use Rattle.std.specs.declared.option.Option.the-variants.{Some, None}
@@ -16,6 +17,8 @@ use Rattle.mtl.specs.declared.row.Row.{Row}
 use Rattle.mtl.proofs.Operands.{Earlier, earlier-at}
 use Rattle.writer.specs.Choice.{Small, Fit}
 use Rattle.writer.specs.Tables.{Given}
+use Rattle.mtl.specs.Rows.{NeverFalls}
+use Rattle.mtl.specs.Tables.{linesOf}
 
 pub line-some : (T : Rules) (n : ℕ) (l : Line) → lineIn T n ≡ Some l → (n < length T) × (lineAt T n ≡ l)
 line-some T n l e = go (ltb n (length T)) (ltb→lt _ _) e
@@ -54,3 +57,12 @@ fit {T = T} cs n i l g e w h =
 
 pub line-past : (T : Rules) (n : ℕ) → lineIn T n ≡ None → Mark 0 ≡ lineAt T n
 line-past T n e = sym (getD-past T n (Mark 0) (elim (decLt n (length T)) [ yes h ↦ absurd (line-none T n e h) | no h ↦ omega arith ]))
+
+-- a table and the rows of a log are as the passes want them
+pub given-of : (t : Table) (R : List Row) → length R ≤ 128 → NeverFalls R → Given (linesOf t) R
+given-of t R few up = record {
+  few-lines = omega (arith, length-take-le (t .count) (t .lines) (omega (arith, t .room .0, t .room .1)), t .room .0);
+  few-rows = few;
+  ordered = t .formed;
+  rising = up;
+}

@@ -5,17 +5,21 @@ use mathlib.Core.List.{List, _++_, map}
 use mathlib.Core.Bool.{false, cond, true}
 use native.Mathlib.Omega.{arith}
 use lib.ListN.{length, take, drop}
+use Rattle.std.specs.declared.result.Result.{Result}
 use Rattle.std.specs.declared.result.Result.the-variants.{Ok, Err}
 use Rattle.std.proofs.shelf.Lists.{take-at, drop-at}
-use Rattle.mtl.specs.Settling.{settleWrites}
+use Rattle.mtl.specs.Laws.{SettleSays}
+use Rattle.mtl.proofs.Settles.{settle-says}
+use Rattle.mtl.specs.Settling.{Lengths, settleAnswer, settleWrites, wrote}
 use Rattle.mtl.specs.Buffers.{cells, early, Fills}
 use Rattle.mtl.specs.declared.ruling.Settled.{Settled}
-use Rattle.mtl.specs.Lines.{Rules}
+use Rattle.mtl.specs.Lines.{Rules, WellFormed}
 use Rattle.mtl.specs.Ranges.{run}
 use Rattle.mtl.specs.declared.row.Row.{Row}
 use Rattle.writer.specs.Written.{putAt}
 use Rattle.writer.specs.Tables.{sizeAt, codeAt, filled}
 use Rattle.writer.proofs.Stored.{length-run}
+use Rattle.mtl.specs.Rows.{NeverFalls}
 
 kept : (f : ℕ → ℕ) (old : List ℕ) → drop 8192 (filled f 8192 old) ≡ drop 8192 old
 unfolding filled
@@ -61,3 +65,8 @@ module _ (T : Rules) (R : List Row) (n i : ℕ) (sizes sizes′ plan plan′ : L
             ap (λ k. drop k out′) long ∙ ap (drop (length bs)) e ∙ drop-at bs (drop (0 + length bs) out) (length bs) refl ∙ ap (λ k. drop k out) z ∙
             ap (λ k. drop k out) (sym long);
       }
+
+-- and in the subject's words
+pub promised : (T : Rules) → WellFormed T → (R : List Row) → NeverFalls R → (n i : ℕ) (ls : Lengths) (a : Result Settled ℕ) (sizes sizes′ plan plan′ out out′ : List ℕ) →
+    a ≡ settleAnswer T R n i ls → Fills T R n i a sizes sizes′ plan plan′ out out′ → SettleSays T R n i ls a (wrote a out′)
+promised T wf R up n i ls a sizes sizes′ plan plan′ out out′ e f = settle-says T wf R up n i ls a (wrote a out′) (sym e) (f .written)

@@ -119,7 +119,7 @@ pub fn settle<L: Readable>(
     if row >= count {
         return Err(SettleFault::NoSuchRow);
     }
-    if sizes.len() < 8192 || plan.len() < 8192 {
+    if sizes.len().min(plan.len()) < 8192 {
         return Err(SettleFault::BufferShort);
     }
     let mut rows = [Row { time: 0, marks: 0 }; 128];
