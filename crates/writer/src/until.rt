@@ -36,10 +36,8 @@ pub(crate) fn until_held(
     let end = end_within(window, rows, row);
     for j in row..end {
         let met = inside(window, rows[j].time.saturating_sub(time));
-        best = better(
-            best,
-            offered(met, plus(sum, held_cell(sizes, right, j)), 24, j),
-        );
+        let way = offered(met, plus(sum, held_cell(sizes, right, j)), 24, j);
+        best = better(best, way);
         sum = plus(sum, held_cell(sizes, left, j));
     }
     best
