@@ -1,6 +1,10 @@
 // Until, in one pass over the rows of its window from the first to the last.
 ghost use mathlib.Core.Path.{_≡_};
+ghost use Prim.Native.Nat.{ℕ, _-_, _<_};
+ghost use lib.ListN.{length};
 ghost use Rattle.mtl.specs.Forms.{forms};
+ghost use Rattle.mtl.specs.Rows.{timeAt};
+ghost use Rattle.mtl.specs.Windows.{past};
 ghost use Rattle.mtl.specs.declared.line.Line.the-variants.{Until as until};
 ghost use Rattle.mtl.specs.declared.ruling.Ruling.the-variants.{Held as held, Broken as broken};
 ghost use Rattle.writer.specs.Choice.{cellIn, ofForms, Ready};
@@ -43,6 +47,17 @@ pub(crate) fn until_held(
     best
 }
 
+// Whether the window of a row lies wholly before the log's last time.
+fn has_closed(window: Window, rows: &[Row], row: usize) -> bool
+    requires { ⌜ row < length (now rows) ⌝ }
+    ensures { λ r. ⌜ r ≡ past (window .to) (timeAt (now (rows .entry)) (length (now (rows .entry)) - 1) - timeAt (now (rows .entry)) row) ⌝ }
+{
+    beyond(
+        window,
+        rows[rows.len() - 1].time.saturating_sub(rows[row].time),
+    )
+}
+
 pub(crate) fn until_broken(
     window: Window,
     left: u8,
@@ -74,6 +89,5 @@ pub(crate) fn until_broken(
             ),
         );
     }
-    let closed = beyond(window, rows[rows.len() - 1].time.saturating_sub(time));
-    better(best, offered(closed, all, 26, 0))
+    better(best, offered(has_closed(window, rows, row), all, 26, 0))
 }
