@@ -52,10 +52,8 @@ fn has_closed(window: Window, rows: &[Row], row: usize) -> bool
     requires { ⌜ row < length (now rows) ⌝ }
     ensures { λ r. ⌜ r ≡ past (window .to) (timeAt (now (rows .entry)) (length (now (rows .entry)) - 1) - timeAt (now (rows .entry)) row) ⌝ }
 {
-    beyond(
-        window,
-        rows[rows.len() - 1].time.saturating_sub(rows[row].time),
-    )
+    let after = rows[rows.len() - 1].time.saturating_sub(rows[row].time);
+    beyond(window, after)
 }
 
 pub(crate) fn until_broken(
