@@ -80,8 +80,17 @@ linesAfter T letter f = afterAnswer (enterAnswer T letter f) T letter f
 abbrev pub operandIn : ℕ → ℕ → Result ℕ LineFault
 operandIn number count = cond (ltb number count) (Ok number) (Err NotEarlier)
 
+abbrev pub operandsIn : Fields → ℕ → Result (ℕ × ℕ) LineFault
+operandsIn f count = cond (ltb (f .left) count && ltb (f .right) count) (Ok (f .left, f .right)) (Err NotEarlier)
+
+abbrev pub markIn : ℕ → Result Line LineFault
+markIn number = cond (ltb number 32) (Ok (mark number)) (Err NoSuchMark)
+
 abbrev pub windowIn : Fields → Result Window LineFault
 windowIn f = cond (ordered (f .from) (f .to)) (Ok (windowOf f)) (Err WindowReversed)
+
+abbrev pub endedWindowIn : Fields → Result Window LineFault
+endedWindowIn f = cond (ordered (f .from) (f .to)) (cond (present (f .to)) (Ok (windowOf f)) (Err UntilEndless)) (Err WindowReversed)
 
 -- the line of the kind, which may stand as line n; or the first no
 abbrev pub Makes : Result Line LineFault → ℕ → Kind → Fields → Type 0

@@ -1,13 +1,13 @@
 // The lines of a rule table, and why one is refused.
 
 // The differences between two times that count as inside; without `to` there is no upper end.
-#[derive(Clone, Copy, Debug, PartialEq)]
+#[derive(Clone, Copy)]
 pub struct Window {
     pub from: u32,
     pub to: Option<u32>,
 }
 
-#[derive(Clone, Copy, Debug, PartialEq)]
+#[derive(Clone, Copy, PartialEq)]
 pub enum Kind {
     Mark,
     Not,
@@ -20,7 +20,7 @@ pub enum Kind {
 }
 
 // A rule line: a mark's number, or the numbers of earlier lines, left before right.
-#[derive(Clone, Copy, Debug, PartialEq)]
+#[derive(Clone, Copy)]
 pub enum Line {
     Mark(u8),
     Not(u8),

@@ -7,7 +7,7 @@ pub enum Ruling {
 }
 
 // The ruling of a line at a row.
-#[derive(Clone, Copy, Debug, PartialEq)]
+#[derive(Clone, Copy)]
 pub struct Claim {
     pub line: u8,
     pub row: u16,
@@ -24,7 +24,7 @@ pub struct Node {
 }
 
 // What a line at a row is settled to: its ruling, and the nodes of its shortest certificate.
-#[derive(Clone, Copy, Debug, PartialEq)]
+#[derive(Clone, Copy)]
 pub struct Settled {
     pub ruling: Ruling,
     pub size: u16,

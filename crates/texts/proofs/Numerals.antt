@@ -13,7 +13,7 @@ use Rattle.std.proofs.shelf.Lists.{at-drop-more}
 use Rattle.std.proofs.shelf.Ways.{tells}
 use Rattle.texts.specs.Numbers.{readOn, leadingZero, numberTo}
 
-pub refuse-digits : (most : ℕ) (bs : List ℕ) → allDigits bs ≡ false → None ≡ numberTo most bs
+refuse-digits : (most : ℕ) (bs : List ℕ) → allDigits bs ≡ false → None ≡ numberTo most bs
 refuse-digits most bs e = grind (arith, tells)
 
 pub refuse-large : (most : ℕ) (bs : List ℕ) → most < readOn 0 bs → None ≡ numberTo most bs

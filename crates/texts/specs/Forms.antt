@@ -1,9 +1,9 @@
 -- The fields of a rules line, each in its form.
 use mathlib.Core.Path.{_≡_}
-use mathlib.Core.Bool.{Bool, true, false, cond, _&&_}
+use mathlib.Core.Bool.{Bool, true, false, cond}
 use mathlib.Core.List.{List, [], _∷_}
 use Prim.Native.Nat.{ℕ, _+_}
-use lib.Dec.{eqb, leb}
+use lib.Dec.{eqb}
 use lib.ListN.{getD}
 use Rattle.std.specs.declared.option.Option.{Option}
 use Rattle.std.specs.declared.option.Option.the-variants.{Some, None}
@@ -11,6 +11,7 @@ use Rattle.std.specs.declared.result.Result.{Result}
 use Rattle.std.specs.declared.result.Result.the-variants.{Ok, Err}
 use Rattle.mtl.specs.Kinds.{kindAt, hasRight, hasWindow}
 use Rattle.mtl.specs.declared.line.Kind.{Kind}
+use Rattle.texts.specs.Bytes.{letter}
 use Rattle.texts.specs.Numbers.{numberAt}
 use Rattle.texts.specs.Tokens.{Said, word, dash, lineEnd, said, saidBy}
 use Rattle.texts.specs.declared.fault.TextFault.{TextFault}
@@ -32,7 +33,7 @@ abbrev pub someNumber : Option ℕ → Option (Option ℕ)
 someNumber None = None
 someNumber (Some n) = Some (Some n)
 
--- the end of a window: a number, or `-` for none
+-- the end of a window where the field is used, a number or `-` for none; and `-` where it is not
 abbrev pub endIn : Bool → Said → Option (Option ℕ)
 endIn true (word w) = someNumber (numberAt w)
 endIn true dash = Some None
@@ -51,7 +52,7 @@ nextIn n t = sameNumber n (usedIn true t)
 
 abbrev pub letterAt : List ℕ → Option ℕ
 letterAt [] = None
-letterAt (b ∷ []) = cond (leb 97 b && leb b 122) (Some b) None
+letterAt (b ∷ []) = cond (letter b) (Some b) None
 letterAt (b ∷ c ∷ cs) = None
 
 -- one letter a to z
@@ -66,9 +67,11 @@ pub record Spot : Type 0 where
   pub line : ℕ
   pub field : ℕ
 
+-- the field w, as the number `field` of its line
 abbrev pub spot : ℕ → ℕ → List ℕ → Spot
 spot line field w = record { token = saidBy w; line = line; field = field }
 
+-- a token as the lexer places it
 abbrev pub spotOf : Placed → Spot
 spotOf p = record { token = said (p .token); line = p .line; field = p .field }
 
@@ -84,6 +87,7 @@ orFault p (Some x) = Ok x
 abbrev pub inForm : {X : Type 0} → (Said → Option X) → Spot → Result X TextFault
 inForm read p = orFault p (read (p .token))
 
+-- the first fault ends the reading of a line
 abbrev pub andThen : {X Y : Type 0} → Result X TextFault → (X → Result Y TextFault) → Result Y TextFault
 andThen (Ok x) f = f x
 andThen (Err e) f = Err e
@@ -109,6 +113,7 @@ formedBy n number kind from to left right =
 abbrev pub spotAt : ℕ → List (List ℕ) → ℕ → Spot
 spotAt n fs k = spot n (k + 1) (getD fs k [])
 
+-- what a line says, by its six fields
 abbrev pub formed : ℕ → ℕ → List (List ℕ) → Result Entry TextFault
 formed line n fs = formedBy n (spotAt line fs 0) (spotAt line fs 1) (spotAt line fs 2) (spotAt line fs 3) (spotAt line fs 4) (spotAt line fs 5)
 

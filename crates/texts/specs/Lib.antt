@@ -12,3 +12,4 @@ pub mod Rules
 pub mod Names
 pub mod Marks
 pub mod Logs
+pub mod Samples

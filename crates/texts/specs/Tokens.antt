@@ -31,6 +31,7 @@ abbrev pub restOf : List (List ℕ) → List (List ℕ)
 restOf [] = []
 restOf (w ∷ ws) = ws
 
+-- the number of the field after the next token; the line's end is given out again and again
 abbrev pub fieldAfter : List (List ℕ) → ℕ → ℕ
 fieldAfter [] n = n
 fieldAfter (w ∷ ws) n = n + 1

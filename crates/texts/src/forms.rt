@@ -16,7 +16,7 @@ use mtl::line::Fields;
 use mtl::line::Kind;
 
 // The fault of a field that is not in form.
-pub fn wrong_form(placed: Placed<'_>) -> TextFault
+pub(crate) fn wrong_form(placed: Placed<'_>) -> TextFault
     ensures { λ r. ⌜ r ≡ faultAt (spotOf (placed .entry)) ⌝ }
 {
     TextFault::WrongForm {
@@ -26,7 +26,7 @@ pub fn wrong_form(placed: Placed<'_>) -> TextFault
 }
 
 // A number where the field is used, and `-` where it is not.
-pub fn used_number(placed: Placed<'_>, used: bool) -> Result<u32, TextFault>
+pub(crate) fn used_number(placed: Placed<'_>, used: bool) -> Result<u32, TextFault>
     ensures { λ r. ⌜ r ≡ inForm (usedIn used) (spotOf (placed .entry)) ⌝ }
 {
     match (placed.token, used) {
@@ -91,7 +91,7 @@ fn has_right(kind: Kind) -> bool
 }
 
 // The six fields of a line that has six.
-pub fn six_fields<'a>(text: &'a [u8], line: usize) -> RuleFields<'a>
+pub(crate) fn six_fields<'a>(text: &'a [u8], line: usize) -> RuleFields<'a>
     requires { ⌜ shaped 6 (fieldsOf (now text)) ≡ true ⌝ }
     ensures { λ r. ⌜ Six r line (fieldsOf (now (text .entry))) ⌝ }
 {
@@ -107,7 +107,7 @@ pub fn six_fields<'a>(text: &'a [u8], line: usize) -> RuleFields<'a>
 }
 
 // What the fields say, or the first that is not in form.
-pub fn entry_of(fields: &RuleFields<'_>, next: u32) -> Result<Entry, TextFault>
+pub(crate) fn entry_of(fields: &RuleFields<'_>, next: u32) -> Result<Entry, TextFault>
     ensures { λ r. ⌜ r ≡ formedBy next (spotOf (now (fields .entry) .line)) (spotOf (now (fields .entry) .kind)) (spotOf (now (fields .entry) .from)) (spotOf (now (fields .entry) .to)) (spotOf (now (fields .entry) .left)) (spotOf (now (fields .entry) .right)) ⌝ }
 {
     next_number(fields.line, next)?;

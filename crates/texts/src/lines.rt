@@ -5,7 +5,7 @@ use crate::first::FirstLine;
 use crate::scan::wrong_line;
 
 // The first line of a text, and the rest; none where no line ends.
-pub fn first_line<'a>(text: &'a [u8]) -> Option<FirstLine<'a>>
+pub(crate) fn first_line<'a>(text: &'a [u8]) -> Option<FirstLine<'a>>
     ensures { λ r. ⌜ CutsFirst r (now (text .entry)) ⌝ }
 {
     for (i, b) in text.iter().enumerate() {
@@ -20,7 +20,7 @@ pub fn first_line<'a>(text: &'a [u8]) -> Option<FirstLine<'a>>
 }
 
 // The names line of a text whose length and bytes are right, and the rest.
-pub fn names_line<'a>(text: &'a [u8]) -> Result<FirstLine<'a>, TextFault>
+pub(crate) fn names_line<'a>(text: &'a [u8]) -> Result<FirstLine<'a>, TextFault>
     ensures { λ r. ⌜ Begins r (now (text .entry)) ⌝ }
 {
     if text.len() > 16384 {

@@ -3,7 +3,7 @@ ghost use mathlib.Core.Path.{_≡_};
 ghost use mathlib.Core.List.{List, []};
 ghost use Prim.Native.Nat.{ℕ, _<_, _≤_};
 ghost use lib.ListN.{length};
-ghost use Rattle.mtl.specs.Entering.{told, operandIn, windowIn, Makes, enterAnswer, linesAfter};
+ghost use Rattle.mtl.specs.Entering.{told, operandIn, operandsIn, markIn, windowIn, endedWindowIn, Makes, enterAnswer, linesAfter};
 ghost use Rattle.mtl.specs.Tables.{entered, linesOf};
 use crate::draft::Draft;
 use crate::kind::kind_of;
@@ -26,6 +26,26 @@ fn operand(number: u32, count: usize) -> Result<u8, LineFault>
     }
 }
 
+// Both operands are.
+fn operands(fields: &Fields, count: usize) -> Result<(u8, u8), LineFault>
+    requires { ⌜ count ≤ 32 ⌝ }
+    ensures { λ r. ⌜ r ≡ operandsIn (now (fields .entry)) count ⌝ }
+{
+    let left = operand(fields.left, count)?;
+    let right = operand(fields.right, count)?;
+    Ok((left, right))
+}
+
+fn mark(number: u32) -> Result<Line, LineFault>
+    ensures { λ r. ⌜ r ≡ markIn number ⌝ }
+{
+    if number < 32 {
+        Ok(Line::Mark(number as u8))
+    } else {
+        Err(LineFault::NoSuchMark)
+    }
+}
+
 fn window(fields: &Fields) -> Result<Window, LineFault>
     ensures { λ r. ⌜ r ≡ windowIn (now (fields .entry)) ⌝ }
 {
@@ -38,56 +58,48 @@ fn window(fields: &Fields) -> Result<Window, LineFault>
     }
 }
 
+// The window of an until, which has an end.
+fn ended_window(fields: &Fields) -> Result<Window, LineFault>
+    ensures { λ r. ⌜ r ≡ endedWindowIn (now (fields .entry)) ⌝ }
+{
+    let window = window(fields)?;
+    if window.to.is_none() {
+        return Err(LineFault::UntilEndless);
+    }
+    Ok(window)
+}
+
 // The line of a kind, as line `count`.
 fn line_of(kind: Kind, count: usize, fields: &Fields) -> Result<Line, LineFault>
     requires { ⌜ count ≤ 32 ⌝ }
     ensures { λ r. ⌜ Makes r count kind (now (fields .entry)) ⌝ }
 {
     match kind {
-        Kind::Mark => {
-            if fields.left >= 32 {
-                return Err(LineFault::NoSuchMark);
-            }
-            Ok(Line::Mark(fields.left as u8))
-        }
-        Kind::Not => {
-            let left = operand(fields.left, count)?;
-            Ok(Line::Not(left))
-        }
+        Kind::Mark => mark(fields.left),
+        Kind::Not => Ok(Line::Not(operand(fields.left, count)?)),
         Kind::And => {
-            let left = operand(fields.left, count)?;
-            let right = operand(fields.right, count)?;
+            let (left, right) = operands(fields, count)?;
             Ok(Line::And(left, right))
         }
         Kind::Or => {
-            let left = operand(fields.left, count)?;
-            let right = operand(fields.right, count)?;
+            let (left, right) = operands(fields, count)?;
             Ok(Line::Or(left, right))
         }
         Kind::Previous => {
             let left = operand(fields.left, count)?;
-            let window = window(fields)?;
-            Ok(Line::Previous(window, left))
+            Ok(Line::Previous(window(fields)?, left))
         }
         Kind::Next => {
             let left = operand(fields.left, count)?;
-            let window = window(fields)?;
-            Ok(Line::Next(window, left))
+            Ok(Line::Next(window(fields)?, left))
         }
         Kind::Since => {
-            let left = operand(fields.left, count)?;
-            let right = operand(fields.right, count)?;
-            let window = window(fields)?;
-            Ok(Line::Since(window, left, right))
+            let (left, right) = operands(fields, count)?;
+            Ok(Line::Since(window(fields)?, left, right))
         }
         Kind::Until => {
-            let left = operand(fields.left, count)?;
-            let right = operand(fields.right, count)?;
-            let window = window(fields)?;
-            if fields.to.is_none() {
-                return Err(LineFault::UntilEndless);
-            }
-            Ok(Line::Until(window, left, right))
+            let (left, right) = operands(fields, count)?;
+            Ok(Line::Until(ended_window(fields)?, left, right))
         }
     }
 }

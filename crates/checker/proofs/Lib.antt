@@ -1,0 +1,9 @@
+pub mod PastEnd
+pub mod Walks
+pub mod Alike
+pub mod Coded
+pub mod OwnForms
+pub mod Judged
+pub mod Nodes
+pub mod Late
+pub mod Answered
