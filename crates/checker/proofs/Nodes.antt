@@ -13,7 +13,7 @@ use Rattle.mtl.specs.declared.ruling.Claim.{Claim}
 use Rattle.mtl.specs.declared.ruling.Node.{Node}
 use Rattle.mtl.specs.declared.ruling.Ruling.{Ruling}
 use Rattle.mtl.specs.Bytes.{nodeAt, nodes}
-use Rattle.mtl.specs.Checking.{Went, stops, goes, nodeStep, Verdict, accepted, refused, ended, checks}
+use Rattle.mtl.specs.Checking.{Went, stops, goes, nodeStep, Verdict, refused, ended, checks}
 use Rattle.mtl.specs.Claims.{claim}
 use Rattle.mtl.specs.Lines.{Rules}
 use Rattle.checker.specs.declared.fault.CheckFault.{CheckFault}
@@ -76,21 +76,6 @@ module _ (T : Rules) (R : List Row) where
             ap (λ m. take (m - n .count) (take top st) ++ (claim (n .line) (n .row) r ∷ [])) (length-take-le top st fits)
             ∙ (ap (λ v. v ++ (claim (n .line) (n .row) r ∷ [])) (take-take (top - n .count) top st (omega arith)) ∙ sym (take-more-set st (top - n .count) _ room))
 
-  at-end : (xs : List ℕ) (i : ℕ) (w : List Claim) → length xs < 6 → checks T R w (nodes xs) i ≡ ended w i
+  pub at-end : (xs : List ℕ) (i : ℕ) (w : List Claim) → length xs < 6 → checks T R w (nodes xs) i ≡ ended w i
   unfolding checks
   at-end xs i w h = ap (λ ns. checks T R w ns i) (nodes-none xs h)
-
-  pub one-left : (xs : List ℕ) (i top : ℕ) (st : List Claim) (d : Claim) → length xs < 6 → top ≡ 1 → 1 ≤ length st → checks T R (take top st) (nodes xs) i ≡ accepted (getD st 0 d)
-  one-left xs i top st d h e l = ap (λ n. checks T R (take n st) (nodes xs) i) e ∙ (at-end xs i (take 1 st) h ∙ only st l)
-    where
-      only : (st : List Claim) → 1 ≤ length st → ended (take 1 st) i ≡ accepted (getD st 0 d)
-      only [] h = absurd (omega arith)
-      only (c ∷ cs) h = refl
-
-  pub not-one : (xs : List ℕ) (i top : ℕ) (st : List Claim) → length xs < 6 → (top ≡ 1 → ⊥) → top ≤ length st → checks T R (take top st) (nodes xs) i ≡ refused 20 i
-  not-one xs i top st h e l = at-end xs i (take top st) h ∙ none (take top st) (λ q. e (sym (length-take-le top st l) ∙ q))
-    where
-      none : (w : List Claim) → (length w ≡ 1 → ⊥) → ended w i ≡ refused 20 i
-      none [] h = refl
-      none (c ∷ []) h = absurd (h refl)
-      none (c ∷ d ∷ cs) h = refl

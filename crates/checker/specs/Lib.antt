@@ -4,3 +4,4 @@ pub mod Rule
 pub mod Children
 pub mod Placed
 pub mod Stepped
+pub mod Sizes

@@ -5,10 +5,11 @@ ghost use mathlib.Core.List.{[]};
 ghost use Prim.Native.Nat.{_*_, _≤_};
 ghost use lib.ListN.{length};
 ghost use Rattle.mtl.specs.Bytes.{nodes};
-ghost use Rattle.mtl.specs.Checking.{checks, checkAnswer};
+ghost use Rattle.mtl.specs.Checking.{ended, checks, checkAnswer};
 ghost use Rattle.mtl.specs.Laws.{CheckSays};
 ghost use Rattle.mtl.specs.Tables.{linesOf};
 ghost use Rattle.checker.specs.Told.{told, early, AcceptsExactly};
+ghost use Rattle.checker.specs.Sizes.{sizeAnswer, Room};
 use crate::fault::CheckFault;
 use crate::node::judge;
 use logs::traits::Readable;
@@ -31,16 +32,35 @@ pub fn check<L: Readable>(
     ensures says { λ r. ⌜ CheckSays (linesOf (now (table .entry))) (L·Readable .rows (now (log .entry))) (now (certificate .entry)) (length (now (stack .entry))) (told r) ⌝ }
     ensures untouched { λ r. ⌜ (early (told r) ≡ true → now (stack .exit) ≡ now (stack .entry)) ⌝ }
 {
-    if certificate.len() == 0 || certificate.len() % 6 != 0 {
+    fits(certificate.len(), stack.len())?;
+    walk(table, log, certificate, stack)
+}
+
+// The questions before any node: whole nodes, not too many of them, and a place on the stack for each.
+fn fits(bytes: usize, places: usize) -> Result<(), CheckFault>
+    ensures answer { λ r. ⌜ r ≡ sizeAnswer bytes places ⌝ }
+    ensures room { λ r. ⌜ Room bytes places r ⌝ }
+{
+    if bytes == 0 || bytes % 6 != 0 {
         return Err(CheckFault::NotWholeNodes);
     }
-    if certificate.len() > MOST_BYTES {
+    if bytes > MOST_BYTES {
         return Err(CheckFault::TooLong);
     }
-    if certificate.len() / 6 > stack.len() {
+    if bytes / 6 > places {
         return Err(CheckFault::StackTooShort);
     }
-    walk(table, log, certificate, stack)
+    Ok(())
+}
+
+// The question at the end: exactly one subtree waiting.
+fn only(waiting: &[Claim], nodes: usize) -> Result<Claim, CheckFault>
+    ensures { λ r. ⌜ told r ≡ ended (now (waiting .entry)) nodes ⌝ }
+{
+    match waiting {
+        [claim] => Ok(*claim),
+        _ => Err(CheckFault::NotOneLeft { nodes }),
+    }
 }
 
 // The nodes one after another; the claims waiting are the stack's first ones, up to top.
@@ -76,9 +96,5 @@ fn walk<L: Readable>(
         at += 1;
         left = rest;
     }
-    if top == 1 {
-        Ok(stack[0])
-    } else {
-        Err(CheckFault::NotOneLeft { nodes: at })
-    }
+    only(&stack[..top], at)
 }

@@ -2,11 +2,11 @@ use mathlib.Core.Path.{refl, sym, _∙_}
 use Prim.Native.Nat.{_-_, _≤_}
 use native.Mathlib.Omega.{arith}
 use borrow.Author.Tests.{ltb-false, ltb-true}
-use lib.ListN.{length, getD, length-take, length-drop, length-set}
+use lib.ListN.{take, length, getD, length-take, length-drop, length-set}
 use lib.Seq.{length-take-le}
 use Rattle.std.proofs.shelf.Results.{err-from-errBy}
 use Rattle.mtl.specs.Tables.{linesOf}
-use Rattle.checker.proofs.Nodes.{wrong, right, one-left, not-one}
+use Rattle.checker.proofs.Nodes.{wrong, right, at-end}
 use Rattle.checker.proofs.check.walk.Needs as need
 
 pub returns-in-Break-ruling : need.returns-in-Break-ruling
@@ -34,16 +34,8 @@ loop-left-again g c =
       simp length-set (c .loop-left .inv .3),
     )
 
-pub returns-then-top-eq1 : need.returns-then-top-eq1
-returns-then-top-eq1 g c =
-    let fits : 1 ≤ length (c .loop-left .stack) = omega arith in
-    sym (one-left (linesOf (c .args .table .now)) (g .L·Readable .rows (c .args .log .now)) (c .loop-left .left .now) (c .loop-left .at) (c .loop-left .top) (c .loop-left .stack) _
-    (omega (arith, ltb-true)) (c .if-top-eq1 .taken) fits)
-    ∙ c .loop-left .inv .0
-
-pub returns-else-top-eq1 : need.returns-else-top-eq1
-returns-else-top-eq1 g c =
-    let fits : c .loop-left .top ≤ length (c .loop-left .stack) = omega arith in
-    sym (not-one (linesOf (c .args .table .now)) (g .L·Readable .rows (c .args .log .now)) (c .loop-left .left .now) (c .loop-left .at) (c .loop-left .top) (c .loop-left .stack)
-    (omega (arith, ltb-true)) (c .if-top-eq1 .left) fits)
-    ∙ c .loop-left .inv .0
+pub returns : need.returns
+returns g c =
+    c .only .ensures
+    ∙ (sym (at-end (linesOf (c .args .table .now)) (g .L·Readable .rows (c .args .log .now)) (c .loop-left .left .now) (c .loop-left .at) (take (c .loop-left .top) (c .loop-left .stack)) (omega (arith, ltb-true)))
+    ∙ c .loop-left .inv .0)

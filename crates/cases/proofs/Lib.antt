@@ -1,0 +1,5 @@
+pub mod Kept
+pub mod Shown
+pub mod Whole
+pub mod Blank
+pub mod Within

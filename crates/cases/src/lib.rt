@@ -1,0 +1,4 @@
+//! The case: a rule table, a growing log, and a book that keeps the rulings.
+mod book;
+pub mod case;
+pub mod entry;
