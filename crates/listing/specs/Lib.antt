@@ -1,0 +1,6 @@
+pub mod Inputs
+pub mod Faults
+pub mod Rulings
+pub mod Listings
+pub mod Laws
+pub mod Places
