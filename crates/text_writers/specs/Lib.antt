@@ -1,3 +1,4 @@
 pub mod Writing
 pub mod RuleTexts
 pub mod LogTexts
+pub mod Laws
