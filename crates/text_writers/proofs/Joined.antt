@@ -21,6 +21,7 @@ use Rattle.texts.specs.Outcomes.{Outcome, goesOn}
 use Rattle.texts.proofs.Wholeness.{whole}
 use Rattle.text_writers.specs.Writing.{lineEnd, lineText}
 use Rattle.text_writers.proofs.Cut.{last, last-append}
+use Rattle.text_writers.proofs.Variants.{ok-same}
 
 -- the lines, each ended by a byte 10
 abbrev pub joinedLines : List (List ℕ) → List ℕ
@@ -49,9 +50,6 @@ pub record Split (text : List ℕ) (p : Parts) : Type 0 where
   pub right : wrongLine text ≡ None
   pub lines : linesOf text ≡ p .names ∷ p .values
   pub all : text ≡ joinedLines (p .names ∷ p .values)
-
-ok-same : {A B : Type 0} {a b : A} → _≡_ {A = Result A B} (Ok a) (Ok b) → a ≡ b
-ok-same e = cc
 
 split-by : (text : List ℕ) (o : Option ℕ) (ls : List (List ℕ)) (p : Parts) → wrongLine text ≡ o → linesOf text ≡ ls → partsBy o ls ≡ Ok p → Split text p
 split-by text (Some n) ls p ho hl h = let z : _≡_ {A = ℕ} 0 1 = cc in absurd (omega arith)

@@ -42,6 +42,7 @@ use Rattle.text_writers.specs.Laws.{RulesOnly, RulesDiffer}
 use Rattle.text_writers.proofs.Joined.{joinedLines, split, line-is, went}
 use Rattle.text_writers.proofs.RuleLines.{entry}
 use Rattle.text_writers.proofs.Said.{used-is, unused-is, end-is, no-end-is, next-is, letter-is, through, in-form}
+use Rattle.text_writers.proofs.Variants.{ok-same}
 
 -- the letter of a kind
 
@@ -103,9 +104,6 @@ fields-by n Until f = refl
 
 record Formed (n : ℕ) (e : Entry) (fs : List (List ℕ)) : Type 0 where
   at : (k : Kind) → kindAt (e .letter) ≡ Some k → fs ≡ ruleFields n (lineOf k (e .fields))
-
-ok-same : {A B : Type 0} {a b : A} → _≡_ {A = Result A B} (Ok a) (Ok b) → a ≡ b
-ok-same e = cc
 
 rest-is : (line n c : ℕ) (a b d e f g : List ℕ) (o : Option Kind) (x : Entry) → a ≡ decimal n → b ≡ c ∷ [] → kindAt c ≡ o →
     restBy c o (spot line 3 d) (spot line 4 e) (spot line 5 f) (spot line 6 g) ≡ Ok x → Formed n x (a ∷ b ∷ d ∷ e ∷ f ∷ g ∷ [])

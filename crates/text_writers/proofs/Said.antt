@@ -21,6 +21,7 @@ use Rattle.texts.specs.declared.fault.TextFault.{TextFault}
 use Rattle.text_writers.specs.RuleTexts.{unused, endField}
 use Rattle.text_writers.specs.LogTexts.{bitField}
 use Rattle.text_writers.proofs.Numbers.{number-is}
+use Rattle.text_writers.proofs.Variants.{some-same}
 
 dash-is : (w : List ℕ) → isDash w ≡ true → w ≡ unused
 dash-is [] h = let z : _≡_ {A = ℕ} 0 1 = cc in absurd (omega arith)
@@ -40,9 +41,6 @@ used-is w n = by-said w (λ t. usedIn true t ≡ Some n) (w ≡ decimal n) (λ _
 
 pub unused-is : (w : List ℕ) (n : ℕ) → usedIn false (saidBy w) ≡ Some n → w ≡ unused
 unused-is w n = by-said w (λ t. usedIn false t ≡ Some n) (w ≡ unused) (λ e _. e) (λ h. let z : _≡_ {A = ℕ} 0 1 = cc in absurd (omega arith))
-
-some-same : {A : Type 0} {a b : A} → Some a ≡ Some b → a ≡ b
-some-same e = cc
 
 some-number : (o : Option ℕ) (w : List ℕ) (to : Option ℕ) → numberAt w ≡ o → someNumber o ≡ Some to → w ≡ endField to
 some-number None w to ho h = let z : _≡_ {A = ℕ} 0 1 = cc in absurd (omega arith)

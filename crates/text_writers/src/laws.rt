@@ -1,5 +1,6 @@
 // The laws of the texts: what the writers write, the readers read.
 ghost use Rattle.text_writers.specs.Laws.{RulesBack, LogsBack, MaskLogsBack, RulesOnly, RulesDiffer, LogsOnly, LogsDiffer};
+ghost use Rattle.text_writers.specs.Places.{RulesWithin, LogsWithin};
 
 // The text of a table is read as the table, and the text of a log as its rows.
 pub fn texts_round_trip()
@@ -14,4 +15,10 @@ pub fn texts_are_unique()
     ensures rules_differ { λ _. ⌜ RulesDiffer ⌝ }
     ensures logs { λ _. ⌜ LogsOnly ⌝ }
     ensures logs_differ { λ _. ⌜ LogsDiffer ⌝ }
+{}
+
+// A refusal tells a line of the text, and a field of that line.
+pub fn refusals_stand_in_the_text()
+    ensures rules { λ _. ⌜ RulesWithin ⌝ }
+    ensures logs { λ _. ⌜ LogsWithin ⌝ }
 {}
