@@ -1,12 +1,7 @@
 // Filling both work tables, line by line from the lowest.
 ghost use mathlib.Core.Path.{_≡_};
-<<<<<<< HEAD
-ghost use Prim.Native.Nat.{ℕ, _≤_};
-ghost use lib.ListN.{length};
-=======
 ghost use Prim.Native.Nat.{ℕ, _+_, _<_, _≤_};
 ghost use lib.ListN.{length, set};
->>>>>>> ed99db646c624b24c4bd18159f48554e03e74dc2
 ghost use Rattle.mtl.specs.Tables.{linesOf};
 ghost use Rattle.writer.specs.Tables.{Given, sizeAt, codeAt, filled};
 use crate::choose::broken_best;
@@ -14,8 +9,6 @@ use crate::choose::held_best;
 use mtl::row::Row;
 use mtl::table::Table;
 
-<<<<<<< HEAD
-=======
 // Puts the two cells of a line at a row.
 fn put(cells: &mut [u16], at: usize, held: u16, broken: u16)
     requires { ⌜ at + 1 < length (now cells) ⌝ }
@@ -25,7 +18,6 @@ fn put(cells: &mut [u16], at: usize, held: u16, broken: u16)
     cells[at + 1] = broken;
 }
 
->>>>>>> ed99db646c624b24c4bd18159f48554e03e74dc2
 // Fills the first 8,192 cells of both tables: least sizes, and the rule and row that give them.
 pub(crate) fn fill(table: &Table, rows: &[Row], sizes: &mut [u16], plan: &mut [u16])
     requires given { ⌜ Given (linesOf (now table)) (now rows) ⌝ }
@@ -38,15 +30,8 @@ pub(crate) fn fill(table: &Table, rows: &[Row], sizes: &mut [u16], plan: &mut [u
             let held = held_best(table, rows, sizes, line, row);
             let broken = broken_best(table, rows, sizes, line, row);
             let at = 256 * line + 2 * row;
-<<<<<<< HEAD
-            sizes[at] = held.size;
-            sizes[at + 1] = broken.size;
-            plan[at] = held.code;
-            plan[at + 1] = broken.code;
-=======
             put(sizes, at, held.size, broken.size);
             put(plan, at, held.code, broken.code);
->>>>>>> ed99db646c624b24c4bd18159f48554e03e74dc2
         }
     }
 }

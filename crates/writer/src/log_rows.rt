@@ -36,10 +36,7 @@ fn with_mark(word: u32, mark: u32, stands: bool) -> u32
     if stands { word + (1 << mark) } else { word }
 }
 
-<<<<<<< HEAD
-=======
 // The marks of a row as a word, asked one by one.
->>>>>>> ed99db646c624b24c4bd18159f48554e03e74dc2
 fn marks_at<L: Readable>(log: &L, row: usize) -> u32
     requires { ⌜ row < length (L·Readable .rows (now log)) ⌝ }
     ensures { λ r. ⌜ r ≡ rowAt (L·Readable .rows (now (log .entry))) row .marks ⌝ }

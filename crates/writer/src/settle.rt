@@ -43,10 +43,7 @@ fn least(sizes: &[u16], line: u8, row: usize) -> Settled
     }
 }
 
-<<<<<<< HEAD
-=======
 // Writes the certificate of a ruling to the front of the output.
->>>>>>> ed99db646c624b24c4bd18159f48554e03e74dc2
 fn write(
     table: &Table,
     rows: &[Row],

@@ -1,14 +1,10 @@
 // Until, in one pass over the rows of its window from the first to the last.
 ghost use mathlib.Core.Path.{_≡_};
-<<<<<<< HEAD
-ghost use Rattle.mtl.specs.Forms.{forms};
-=======
 ghost use Prim.Native.Nat.{ℕ, _-_, _<_};
 ghost use lib.ListN.{length};
 ghost use Rattle.mtl.specs.Forms.{forms};
 ghost use Rattle.mtl.specs.Rows.{timeAt};
 ghost use Rattle.mtl.specs.Windows.{past};
->>>>>>> ed99db646c624b24c4bd18159f48554e03e74dc2
 ghost use Rattle.mtl.specs.declared.line.Line.the-variants.{Until as until};
 ghost use Rattle.mtl.specs.declared.ruling.Ruling.the-variants.{Held as held, Broken as broken};
 ghost use Rattle.writer.specs.Choice.{cellIn, ofForms, Ready};
@@ -44,22 +40,13 @@ pub(crate) fn until_held(
     let end = end_within(window, rows, row);
     for j in row..end {
         let met = inside(window, rows[j].time.saturating_sub(time));
-<<<<<<< HEAD
-        best = better(
-            best,
-            offered(met, plus(sum, held_cell(sizes, right, j)), 24, j),
-        );
-=======
         let way = offered(met, plus(sum, held_cell(sizes, right, j)), 24, j);
         best = better(best, way);
->>>>>>> ed99db646c624b24c4bd18159f48554e03e74dc2
         sum = plus(sum, held_cell(sizes, left, j));
     }
     best
 }
 
-<<<<<<< HEAD
-=======
 // Whether the window of a row lies wholly before the log's last time.
 fn has_closed(window: Window, rows: &[Row], row: usize) -> bool
     requires { ⌜ row < length (now rows) ⌝ }
@@ -69,7 +56,6 @@ fn has_closed(window: Window, rows: &[Row], row: usize) -> bool
     beyond(window, after)
 }
 
->>>>>>> ed99db646c624b24c4bd18159f48554e03e74dc2
 pub(crate) fn until_broken(
     window: Window,
     left: u8,
@@ -101,10 +87,5 @@ pub(crate) fn until_broken(
             ),
         );
     }
-<<<<<<< HEAD
-    let closed = beyond(window, rows[rows.len() - 1].time.saturating_sub(time));
-    better(best, offered(closed, all, 26, 0))
-=======
     better(best, offered(has_closed(window, rows, row), all, 26, 0))
->>>>>>> ed99db646c624b24c4bd18159f48554e03e74dc2
 }
