@@ -30,7 +30,7 @@ fn show_answer(rt: &LibcRuntime, answer: &Answer) -> io::Result<()> {
     }
 }
 
-pub fn show_all(rt: &LibcRuntime, answers: &[Answer]) -> io::Result<()> {
+pub(crate) fn show_all(rt: &LibcRuntime, answers: &[Answer]) -> io::Result<()> {
     for answer in answers {
         show_answer(rt, answer)?;
     }

@@ -6,11 +6,26 @@ use mtl::row::Row;
 use mtl::table::Table;
 
 // The clamp, the heel, and a since or an until over them with a window from 0 to 5.
-pub fn table_of(letter: char) -> Table {
+pub(crate) fn table_of(letter: char) -> Table {
     let mut draft = Draft::new();
-    let clamp = Fields { from: 0, to: None, left: 0, right: 0 };
-    let heel = Fields { from: 0, to: None, left: 1, right: 0 };
-    let both = Fields { from: 0, to: Some(5), left: 0, right: 1 };
+    let clamp = Fields {
+        from: 0,
+        to: None,
+        left: 0,
+        right: 0,
+    };
+    let heel = Fields {
+        from: 0,
+        to: None,
+        left: 1,
+        right: 0,
+    };
+    let both = Fields {
+        from: 0,
+        to: Some(5),
+        left: 0,
+        right: 1,
+    };
     let _ = draft.enter('m', clamp);
     let _ = draft.enter('m', heel);
     let _ = draft.enter(letter, both);
@@ -30,7 +45,7 @@ fn show<'a>(row: usize) -> Call<'a> {
 }
 
 // Rulings given while rows still come; a certificate presented too early, then twice, with a false one between.
-pub fn since_calls<'a>(certificate: &'a [u8], false_one: &'a [u8]) -> [Call<'a>; 24] {
+pub(crate) fn since_calls<'a>(certificate: &'a [u8], false_one: &'a [u8]) -> [Call<'a>; 24] {
     [
         show(0),
         add(0, 1),
@@ -60,7 +75,7 @@ pub fn since_calls<'a>(certificate: &'a [u8], false_one: &'a [u8]) -> [Call<'a>;
 }
 
 // A row at exactly the window's end leaves the until open; a later one closes it.
-pub fn until_calls<'a>() -> [Call<'a>; 7] {
+pub(crate) fn until_calls<'a>() -> [Call<'a>; 7] {
     [
         add(0, 1),
         add(5, 1),
