@@ -3,3 +3,4 @@ pub mod Shown
 pub mod Whole
 pub mod Blank
 pub mod Within
+pub mod Replaying

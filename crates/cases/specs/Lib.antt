@@ -1,3 +1,4 @@
 pub mod Runs
 pub mod Law
 pub mod View
+pub mod Replays

@@ -38,6 +38,10 @@ bySix a b c d e f t = went (firstNo ((14, a) ∷ (15, b) ∷ (16, c) ∷ (17, d)
 abbrev pub kidsOf : List Claim → Node → List Claim
 kidsOf s d = drop (length s - d .count) s
 
+-- the same, as the code cuts them off
+abbrev cutOf : List Claim → Node → List Claim
+cutOf s d = take (length s - (length s - d .count)) (kidsOf s d)
+
 abbrev pub waits : List Claim → Node → Form → Bool
 waits s d f = countFits (f .shape) (d .count) && leb (d .count) (length s)
 
@@ -74,28 +78,33 @@ no-line T R s d e = go (ltb (d .line) (length T)) refl e
     go true h e = let z : _≡_ {A = ℕ} 0 1 = cc in absurd (omega arith)
     go false h e = λ k. bySix (sym h k) (known x) (ltb (d .row) (length R)) (waits s d (formOr x)) (shows s d (formOr x)) (met s d (formOr x)) (after s d (formOr x .ruling))
 
--- the line is in the table, and read; the node's standing is worked out
-module _
-    (T : Rules) (R : List Row) (s : List Claim) (d : Node) (l : Line) (p : Parts) (o : Option ℕ) (st : Standing)
-    (found : Some l ≡ lineIn T (d .line)) (parted : p ≡ partsOf l) (gapped : o ≡ beside R (p .kind) (d .row))
-    (stood : st ≡ standing (p .kind) (d .rule) (d .count) (record { window = p .window; gap = o })) where
-  read : (b : Bool) → ltb (d .line) (length T) ≡ b → Some l ≡ cond b (Some (lineAt T (d .line))) None → (ltb (d .line) (length T) ≡ true) × (l ≡ lineAt T (d .line))
+-- the line is in the table and read as these parts, and the node's standing is worked out
+pub record Read (T : Rules) (R : List Row) (d : Node) (p : Parts) (st : Standing) : Type 0 where
+  pub line : Line
+  pub gap : Option ℕ
+  pub found : Some line ≡ lineIn T (d .line)
+  pub parted : p ≡ partsOf line
+  pub gapped : gap ≡ beside R (p .kind) (d .row)
+  pub stood : st ≡ standing (p .kind) (d .rule) (d .count) (record { window = p .window; gap = gap })
+
+module _ {T : Rules} {R : List Row} {d : Node} {p : Parts} {st : Standing} (s : List Claim) (at : Read T R d p st) where
+  read : (b : Bool) → ltb (d .line) (length T) ≡ b → Some (at .line) ≡ cond b (Some (lineAt T (d .line))) None → (ltb (d .line) (length T) ≡ true) × (at .line ≡ lineAt T (d .line))
   read true h e = (h, (cc))
   read false h e = let z : _≡_ {A = ℕ} 0 1 = cc in absurd (omega arith)
 
   in-table : ltb (d .line) (length T) ≡ true
-  in-table = read (ltb (d .line) (length T)) refl found .0
+  in-table = read (ltb (d .line) (length T)) refl (at .found) .0
 
   agrees : Agrees R (d .row) p (d .rule) (formAt (forms R (d .row) (lineAt T (d .line))) (d .rule))
   agrees =
       subst (λ x. Agrees R (d .row) x (d .rule) (formAt (forms R (d .row) (lineAt T (d .line))) (d .rule)))
-      (ap partsOf (sym (read (ltb (d .line) (length T)) refl found .1)) ∙ sym parted)
+      (ap partsOf (sym (read (ltb (d .line) (length T)) refl (at .found) .1)) ∙ sym (at .parted))
       (agreed R (d .row) (d .rule) (lineAt T (d .line)))
 
   told : (v : Standing) → st ≡ v → Says (ofKind (p .kind) (d .rule)) (counted (d .rule) (d .count)) (timed (d .rule) (intervalOf R (d .row) p)) v
   told v e =
       subst (Says (ofKind (p .kind) (d .rule)) (counted (d .rule) (d .count)) (timed (d .rule) (intervalOf R (d .row) p)))
-      (ap (λ x. standing (p .kind) (d .rule) (d .count) (record { window = p .window; gap = x })) (sym gapped) ∙ (sym stood ∙ e))
+      (ap (λ x. standing (p .kind) (d .rule) (d .count) (record { window = p .window; gap = x })) (sym (at .gapped)) ∙ (sym (at .stood) ∙ e))
       (says (ofKind (p .kind) (d .rule)) (counted (d .rule) (d .count)) (timed (d .rule) (intervalOf R (d .row) p)))
 
   pub other-kind : st ≡ OtherKind → stops 15 ≡ nodeStep T R s d
@@ -112,7 +121,7 @@ module _
   kind-known v not h = go (formAt (forms R (d .row) (lineAt T (d .line))) (d .rule)) agrees
     where
       other : ofKind (p .kind) (d .rule) ≡ false → st ≡ OtherKind
-      other e = stood ∙ ap (λ b. cond b (cond (counted (d .rule) (d .count)) (cond (timed (d .rule) (record { window = p .window; gap = o })) Fits OutsideInterval) WrongCount) OtherKind) e
+      other e = at .stood ∙ ap (λ b. cond b (cond (counted (d .rule) (d .count)) (cond (timed (d .rule) (record { window = p .window; gap = at .gap })) Fits OutsideInterval) WrongCount) OtherKind) e
 
       go : (x : Option Form) → Agrees R (d .row) p (d .rule) x → v ≡ nodeBy T R s d x
       go None a = absurd (not (other a))
@@ -132,7 +141,7 @@ module _
       (λ f h k. bySix (sym in-table k) true (sym (lt-ltb (d .row) (length R) row) k) (sym (and-right (countFits (f .shape) (d .count)) _ (lt-leb (d .count) (length s) few)) k) (shows s d f) (met s d f) (after s d (f .ruling)))
 
   -- as many children as the rule takes are waiting
-  module _ (kind : st ≡ OtherKind → ⊥) (count : st ≡ WrongCount → ⊥) (row : d .row < length R) (many : d .count ≤ length s) (cs : List Claim) (cut : cs ≡ take (length s - (length s - d .count)) (kidsOf s d)) where
+  module _ (kind : st ≡ OtherKind → ⊥) (count : st ≡ WrongCount → ⊥) (row : d .row < length R) (many : d .count ≤ length s) where
     taken : counted (d .rule) (d .count) ≡ true
     taken = go st refl (told st refl)
       where
@@ -154,26 +163,26 @@ module _
     waits-is : (f : Form) → Coded R (d .row) p (d .rule) f → waits s d f ≡ true
     waits-is f h = and-from _ _ (h .counts (d .count) ∙ taken) (le-leb (d .count) (length s) many)
 
-    cut-is : cs ≡ kidsOf s d
-    cut-is = let n = length-drop (length s - d .count) s in cut ∙ take-all (length s - (length s - d .count)) (kidsOf s d) (omega arith)
+    cut-is : cutOf s d ≡ kidsOf s d
+    cut-is = let n = length-drop (length s - d .count) s in take-all (length s - (length s - d .count)) (kidsOf s d) (omega arith)
 
-    shows-is : (f : Form) → Coded R (d .row) p (d .rule) f → shows s d f ≡ linesShown (d .rule) (p .left) (p .right) cs
+    shows-is : (f : Form) → Coded R (d .row) p (d .rule) f → shows s d f ≡ linesShown (d .rule) (p .left) (p .right) (cutOf s d)
     shows-is f h =
         let n : length (kidsOf s d) ≡ d .count = length-drop (length s - d .count) s ∙ (omega arith) in
         h .lines (kidsOf s d) (ap (countFits (f .shape)) n ∙ (h .counts (d .count) ∙ taken)) ∙ ap (linesShown (d .rule) (p .left) (p .right)) (sym cut-is)
 
-    pub wrong-child : linesShown (d .rule) (p .left) (p .right) cs ≡ false → stops 18 ≡ nodeStep T R s d
+    pub wrong-child : linesShown (d .rule) (p .left) (p .right) (cutOf s d) ≡ false → stops 18 ≡ nodeStep T R s d
     wrong-child bad =
         kind-known (stops 18) kind
         (λ f h k. bySix (sym in-table k) true (sym (lt-ltb (d .row) (length R) row) k) (sym (waits-is f h) k) (sym (shows-is f h ∙ bad) k) (met s d f) (after s d (f .ruling)))
 
-    module _ (shown : linesShown (d .rule) (p .left) (p .right) cs ≡ true) where
-      met-is : (f : Form) → Coded R (d .row) p (d .rule) f → met s d f ≡ (timed (d .rule) (intervalOf R (d .row) p) && placed R (d .rule) p (d .row) cs)
+    module _ (shown : linesShown (d .rule) (p .left) (p .right) (cutOf s d) ≡ true) where
+      met-is : (f : Form) → Coded R (d .row) p (d .rule) f → met s d f ≡ (timed (d .rule) (intervalOf R (d .row) p) && placed R (d .rule) p (d .row) (cutOf s d))
       met-is f h =
           h .rows (kidsOf s d) (shows-is f h ∙ shown)
           ∙ ap (λ x. timed (d .rule) (intervalOf R (d .row) p) && placed R (d .rule) p (d .row) x) (sym cut-is)
 
-      not-met : (timed (d .rule) (intervalOf R (d .row) p) && placed R (d .rule) p (d .row) cs) ≡ false → stops 19 ≡ nodeStep T R s d
+      not-met : (timed (d .rule) (intervalOf R (d .row) p) && placed R (d .rule) p (d .row) (cutOf s d)) ≡ false → stops 19 ≡ nodeStep T R s d
       not-met bad =
           kind-known (stops 19) kind
           (λ f h k. bySix (sym in-table k) true (sym (lt-ltb (d .row) (length R) row) k) (sym (waits-is f h) k) (sym (shows-is f h ∙ shown) k) (sym (met-is f h ∙ bad) k) (after s d (f .ruling)))
@@ -181,10 +190,10 @@ module _
       pub outside-interval : st ≡ OutsideInterval → stops 19 ≡ nodeStep T R s d
       outside-interval e = not-met (and-left _ _ (told OutsideInterval e .2))
 
-      pub not-placed : placed R (d .rule) p (d .row) cs ≡ false → stops 19 ≡ nodeStep T R s d
+      pub not-placed : placed R (d .rule) p (d .row) (cutOf s d) ≡ false → stops 19 ≡ nodeStep T R s d
       not-placed bad = not-met (and-right _ _ bad)
 
-      pub goes-on : (st ≡ OutsideInterval → ⊥) → placed R (d .rule) p (d .row) cs ≡ true → goes (after s d (ruled (d .rule))) ≡ nodeStep T R s d
+      pub goes-on : (st ≡ OutsideInterval → ⊥) → placed R (d .rule) p (d .row) (cutOf s d) ≡ true → goes (after s d (ruled (d .rule))) ≡ nodeStep T R s d
       goes-on interval good =
           kind-known (goes (after s d (ruled (d .rule)))) kind
           (λ f h k. bySix (sym in-table k) true (sym (lt-ltb (d .row) (length R) row) k) (sym (waits-is f h) k) (sym (shows-is f h ∙ shown) k)

@@ -21,18 +21,18 @@ use Rattle.checker.specs.declared.reading.Side.the-variants.{Before, After}
 abbrev pub wide : ℕ → Window
 wide from = record { from = from; to = None }
 
-abbrev parts : Kind → Window → ℕ → ℕ → Parts
-parts k w l r = record { kind = k; window = w; left = l; right = r }
+abbrev pub partsIn : Kind → Window → ℕ → ℕ → Parts
+partsIn k w l r = record { kind = k; window = w; left = l; right = r }
 
 abbrev pub partsOf : Line → Parts
-partsOf (mark m) = parts Mark (wide 0) m 0
-partsOf (neg l) = parts Not (wide 0) l 0
-partsOf (and l r) = parts And (wide 0) l r
-partsOf (or l r) = parts Or (wide 0) l r
-partsOf (previous w l) = parts Previous w l 0
-partsOf (next w l) = parts Next w l 0
-partsOf (since w l r) = parts Since w l r
-partsOf (until w l r) = parts Until w l r
+partsOf (mark m) = partsIn Mark (wide 0) m 0
+partsOf (neg l) = partsIn Not (wide 0) l 0
+partsOf (and l r) = partsIn And (wide 0) l r
+partsOf (or l r) = partsIn Or (wide 0) l r
+partsOf (previous w l) = partsIn Previous w l 0
+partsOf (next w l) = partsIn Next w l 0
+partsOf (since w l r) = partsIn Since w l r
+partsOf (until w l r) = partsIn Until w l r
 
 -- how far row k lies before or after row i
 abbrev pub between : List Row → Side → ℕ → ℕ → ℕ

@@ -3,4 +3,3 @@ pub mod Faults
 pub mod Rulings
 pub mod Listings
 pub mod Laws
-pub mod Places

@@ -26,7 +26,7 @@ fn mark_in(rows: &[Row], row: usize, mark: u32) -> Result<bool, ReadFault> {
 }
 
 impl Tally {
-    pub fn new() -> Tally {
+    pub(crate) fn new() -> Tally {
         Tally {
             compared: 0,
             differing: 0,
@@ -41,7 +41,7 @@ impl Tally {
     }
 
     // Compares the number of rows, and time and marks of each row and of the one past the end.
-    pub fn compare<L: Readable>(&mut self, log: &L, rows: &[Row]) {
+    pub(crate) fn compare<L: Readable>(&mut self, log: &L, rows: &[Row]) {
         self.count(log.len() == rows.len());
         for row in 0..=rows.len() {
             let same = log.time(row) == time_in(rows, row);

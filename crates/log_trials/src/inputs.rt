@@ -8,7 +8,7 @@ fn row(time: Time, marks: u32) -> Row {
     Row { time, marks }
 }
 
-pub fn repeated() -> [Row; 5] {
+pub(crate) fn repeated() -> [Row; 5] {
     [
         row(0, 0),
         row(0, 3),
@@ -18,7 +18,7 @@ pub fn repeated() -> [Row; 5] {
     ]
 }
 
-pub fn latest() -> [Row; 3] {
+pub(crate) fn latest() -> [Row; 3] {
     [
         row(4294967294, 1),
         row(4294967295, 2),
@@ -26,12 +26,12 @@ pub fn latest() -> [Row; 3] {
     ]
 }
 
-pub fn falling() -> [Row; 3] {
+pub(crate) fn falling() -> [Row; 3] {
     [row(5, 1), row(6, 2), row(5, 4)]
 }
 
 // One row more than a log can hold, with two changes from row to row.
-pub fn many() -> [Row; 129] {
+pub(crate) fn many() -> [Row; 129] {
     let mut rows = [row(0, 0); 129];
     for i in 0..129u32 {
         rows[i as usize] = row(3 * i, 1 << (i % 32));
@@ -40,7 +40,7 @@ pub fn many() -> [Row; 129] {
 }
 
 // Sixteen rows of 32 changes each, and one of a single change.
-pub fn busy() -> [Row; 17] {
+pub(crate) fn busy() -> [Row; 17] {
     let mut rows = [row(9, 1); 17];
     for i in 0..8usize {
         rows[2 * i] = row(9, 0xffffffff);
@@ -50,7 +50,7 @@ pub fn busy() -> [Row; 17] {
 }
 
 // The bytes of a sheet with these rows.
-pub fn sheet_bytes(heap: Global, rows: &[Row]) -> Result<Vec<u8>, AllocError> {
+pub(crate) fn sheet_bytes(heap: Global, rows: &[Row]) -> Result<Vec<u8>, AllocError> {
     let mut bytes = Vec::new(heap);
     for row in rows {
         bytes.extend_from_slice(&row.time.to_be_bytes())?;

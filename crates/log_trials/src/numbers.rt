@@ -6,7 +6,7 @@ use logs::fault::AddFault;
 use logs::fault::ReadFault;
 use logs::fault::SheetFault;
 
-pub fn read_number(fault: ReadFault) -> u32
+pub(crate) fn read_number(fault: ReadFault) -> u32
     ensures { λ r. ⌜ r ≡ readNumber fault ⌝ }
 {
     match fault {
@@ -14,7 +14,7 @@ pub fn read_number(fault: ReadFault) -> u32
     }
 }
 
-pub fn add_number(fault: AddFault) -> u32
+pub(crate) fn add_number(fault: AddFault) -> u32
     ensures { λ r. ⌜ r ≡ addNumber fault ⌝ }
 {
     match fault {
@@ -23,7 +23,7 @@ pub fn add_number(fault: AddFault) -> u32
     }
 }
 
-pub fn sheet_number(fault: SheetFault) -> u32
+pub(crate) fn sheet_number(fault: SheetFault) -> u32
     ensures { λ r. ⌜ r ≡ sheetNumber fault ⌝ }
 {
     match fault {

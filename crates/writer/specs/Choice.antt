@@ -25,6 +25,7 @@ none = record { size = 0; code = 0 }
 abbrev pub merge : Best → Best → Best
 merge a b = cond (firstOf (a .size) (b .size)) a b
 
+-- a way of this cost
 abbrev pub choice : ℕ → ℕ → Best
 choice zero code = none
 choice (suc n) code = record { size = suc n; code = code }
@@ -41,10 +42,12 @@ addIf b a c = cond b (addCell a c) a
 abbrev pub wayBy : (Claim → ℕ) → Form → ℕ → Best
 wayBy g f j = offer (f .meets j) (sumCells g 1 (f .kids j)) (256 * f .number + j)
 
+-- the least of a rule's ways by these rows
 unfoldable pub ofWays : (Claim → ℕ) → Form → List ℕ → Best
 ofWays g f [] = none
 ofWays g f (j ∷ js) = merge (wayBy g f j) (ofWays g f js)
 
+-- the least way to a ruling among these forms
 unfoldable pub ofForms : (Claim → ℕ) → Ruling → List Form → Best
 ofForms g r [] = none
 ofForms g r (f ∷ fs) = merge (cond (sameRuling (f .ruling) r) (ofWays g f (run (f .first) (f .count))) none) (ofForms g r fs)
@@ -77,6 +80,7 @@ Small (Next w l) = l < 32
 Small (Since w l r) = (l < 32) × (r < 32)
 Small (Until w l r) = (l < 32) × (r < 32)
 
+-- the same for a line, whatever its kind
 pub record Fit (cs : List ℕ) (rows : List Row) (line : Line) (row : ℕ) : Type 0 where
   pub wide : 8192 ≤ length cs
   pub few : length rows ≤ 128

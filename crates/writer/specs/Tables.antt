@@ -23,9 +23,11 @@ bestBy g T R c = cond (ltb (c .line) (length T)) (cond (ltb (c .row) (length R))
 abbrev pub cellOf : Rules → List Row → Claim → ℕ
 cellOf T R c = cell (certificate T R c)
 
+-- the size that belongs into cell p of the first table
 unfoldable pub sizeAt : Rules → List Row → ℕ → ℕ
 sizeAt T R p = cellOf T R (claimAt p)
 
+-- the way that belongs into cell p of the second
 unfoldable pub codeAt : Rules → List Row → ℕ → ℕ
 codeAt T R p = bestBy (cellOf T R) T R (claimAt p) .code
 

@@ -36,6 +36,7 @@ fn with_mark(word: u32, mark: u32, stands: bool) -> u32
     if stands { word + (1 << mark) } else { word }
 }
 
+// The marks of a row as a word, asked one by one.
 fn marks_at<L: Readable>(log: &L, row: usize) -> u32
     requires { ⌜ row < length (L·Readable .rows (now log)) ⌝ }
     ensures { λ r. ⌜ r ≡ rowAt (L·Readable .rows (now (log .entry))) row .marks ⌝ }

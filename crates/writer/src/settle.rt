@@ -43,6 +43,7 @@ fn least(sizes: &[u16], line: u8, row: usize) -> Settled
     }
 }
 
+// Writes the certificate of a ruling to the front of the output.
 fn write(
     table: &Table,
     rows: &[Row],

@@ -1,6 +1,10 @@
 // Until, in one pass over the rows of its window from the first to the last.
 ghost use mathlib.Core.Path.{_≡_};
+ghost use Prim.Native.Nat.{ℕ, _-_, _<_};
+ghost use lib.ListN.{length};
 ghost use Rattle.mtl.specs.Forms.{forms};
+ghost use Rattle.mtl.specs.Rows.{timeAt};
+ghost use Rattle.mtl.specs.Windows.{past};
 ghost use Rattle.mtl.specs.declared.line.Line.the-variants.{Until as until};
 ghost use Rattle.mtl.specs.declared.ruling.Ruling.the-variants.{Held as held, Broken as broken};
 ghost use Rattle.writer.specs.Choice.{cellIn, ofForms, Ready};
@@ -36,13 +40,20 @@ pub(crate) fn until_held(
     let end = end_within(window, rows, row);
     for j in row..end {
         let met = inside(window, rows[j].time.saturating_sub(time));
-        best = better(
-            best,
-            offered(met, plus(sum, held_cell(sizes, right, j)), 24, j),
-        );
+        let way = offered(met, plus(sum, held_cell(sizes, right, j)), 24, j);
+        best = better(best, way);
         sum = plus(sum, held_cell(sizes, left, j));
     }
     best
+}
+
+// Whether the window of a row lies wholly before the log's last time.
+fn has_closed(window: Window, rows: &[Row], row: usize) -> bool
+    requires { ⌜ row < length (now rows) ⌝ }
+    ensures { λ r. ⌜ r ≡ past (window .to) (timeAt (now (rows .entry)) (length (now (rows .entry)) - 1) - timeAt (now (rows .entry)) row) ⌝ }
+{
+    let after = rows[rows.len() - 1].time.saturating_sub(rows[row].time);
+    beyond(window, after)
 }
 
 pub(crate) fn until_broken(
@@ -76,6 +87,5 @@ pub(crate) fn until_broken(
             ),
         );
     }
-    let closed = beyond(window, rows[rows.len() - 1].time.saturating_sub(time));
-    better(best, offered(closed, all, 26, 0))
+    better(best, offered(has_closed(window, rows, row), all, 26, 0))
 }

@@ -28,7 +28,7 @@ impl LineRecord {
 
 impl Book {
     // Open everywhere.
-    pub fn new() -> Book
+    pub(crate) fn new() -> Book
         ensures { λ r. ⌜ ((n i : ℕ) → shownAt r n i ≡ Open) ⌝ }
     {
         Book {
@@ -39,7 +39,7 @@ impl Book {
     }
 
     // The entry of a line at a row.
-    pub fn at(&self, line: usize, row: usize) -> Entry
+    pub(crate) fn at(&self, line: usize, row: usize) -> Entry
         requires { ⌜ line < 32 ⌝ ∗ ⌜ row < 128 ⌝ }
         ensures { λ r. ⌜ r ≡ shownAt (now (self .entry)) line row ⌝ }
     {
@@ -47,7 +47,7 @@ impl Book {
     }
 
     // Sets one entry, and no other.
-    pub fn enter(&mut self, line: usize, row: usize, ruling: Ruling)
+    pub(crate) fn enter(&mut self, line: usize, row: usize, ruling: Ruling)
         requires { ⌜ line < 32 ⌝ ∗ ⌜ row < 128 ⌝ }
         ensures { λ _. ⌜ ((n i : ℕ) → shownAt (now (self .exit)) n i ≡ entered (Some (claim line row ruling)) (shownAt (now (self .entry))) n i) ⌝ }
     {

@@ -9,7 +9,7 @@ ghost use Rattle.mtl.specs.Tables.{linesOf};
 ghost use Rattle.writer.specs.Told.{told as settleTold};
 ghost use Rattle.checker.specs.Told.{told as checkTold, early};
 ghost use Rattle.cases.specs.Runs.{Added, Presented, Ruled, Looked};
-ghost use Rattle.cases.specs.Law.{Law};
+ghost use Rattle.cases.specs.Law.{Opened, Law};
 ghost use Rattle.cases.specs.View.{stateOf, Does, showTold};
 use crate::book::Book;
 use crate::case::Case;
@@ -32,6 +32,7 @@ impl<L: Growing> Case<L> {
     pub fn open(table: Table, log: L) -> Case<L>
         ensures table { λ r. ⌜ r .table ≡ table ⌝ }
         ensures log { λ r. ⌜ r .log ≡ log ⌝ }
+        ensures opened { λ r. ⌜ Opened (stateOf (L·Growing .room) (L·Readable .rows) r) ⌝ }
         ensures lawful { λ r. ⌜ Law (stateOf (L·Growing .room) (L·Readable .rows) r) ⌝ }
     {
         Case {

@@ -2,7 +2,7 @@
 ghost use mathlib.Core.Path.{_≡_};
 ghost use Rattle.mtl.specs.Windows.{upTo, past};
 ghost use Rattle.mtl.specs.Windows.{inside as isInside};
-ghost use Rattle.checker.specs.Parts.{partsOf, wide};
+ghost use Rattle.checker.specs.Parts.{partsIn, partsOf, wide};
 use crate::reading::Parts;
 use mtl::line::Kind;
 use mtl::line::Line;
@@ -13,54 +13,25 @@ pub(crate) fn parts_of(line: Line) -> Parts
 {
     let any = at_least(0);
     match line {
-        Line::Mark(mark) => Parts {
-            kind: Kind::Mark,
-            window: any,
-            left: mark,
-            right: 0,
-        },
-        Line::Not(left) => Parts {
-            kind: Kind::Not,
-            window: any,
-            left,
-            right: 0,
-        },
-        Line::And(left, right) => Parts {
-            kind: Kind::And,
-            window: any,
-            left,
-            right,
-        },
-        Line::Or(left, right) => Parts {
-            kind: Kind::Or,
-            window: any,
-            left,
-            right,
-        },
-        Line::Previous(window, left) => Parts {
-            kind: Kind::Previous,
-            window,
-            left,
-            right: 0,
-        },
-        Line::Next(window, left) => Parts {
-            kind: Kind::Next,
-            window,
-            left,
-            right: 0,
-        },
-        Line::Since(window, left, right) => Parts {
-            kind: Kind::Since,
-            window,
-            left,
-            right,
-        },
-        Line::Until(window, left, right) => Parts {
-            kind: Kind::Until,
-            window,
-            left,
-            right,
-        },
+        Line::Mark(mark) => parts(Kind::Mark, any, mark, 0),
+        Line::Not(left) => parts(Kind::Not, any, left, 0),
+        Line::And(left, right) => parts(Kind::And, any, left, right),
+        Line::Or(left, right) => parts(Kind::Or, any, left, right),
+        Line::Previous(window, left) => parts(Kind::Previous, window, left, 0),
+        Line::Next(window, left) => parts(Kind::Next, window, left, 0),
+        Line::Since(window, left, right) => parts(Kind::Since, window, left, right),
+        Line::Until(window, left, right) => parts(Kind::Until, window, left, right),
+    }
+}
+
+fn parts(kind: Kind, window: Window, left: u8, right: u8) -> Parts
+    ensures { λ r. ⌜ r ≡ partsIn kind window left right ⌝ }
+{
+    Parts {
+        kind,
+        window,
+        left,
+        right,
     }
 }
 

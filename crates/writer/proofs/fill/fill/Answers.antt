@@ -19,8 +19,8 @@ pub loop-row-again : need.loop-row-again
 loop-row-again c =
     let h = found-held (linesOf (c .args .table .now)) (c .pre .given .ordered) (c .args .rows .now) (c .pre .given .few-rows) (c .loop-line .line) (c .loop-row .row) (c .loop-row .sizes) (c .loop-line .sizes) _ (omega arith) (c .loop-row .inv .0) (c .held-best-held .ensures) in
     let b = found-broken (linesOf (c .args .table .now)) (c .pre .given .ordered) (c .args .rows .now) (c .pre .given .few-rows) (c .loop-line .line) (c .loop-row .row) (c .loop-row .sizes) (c .loop-line .sizes) _ (omega arith) (c .loop-row .inv .0) (c .broken-best-broken .ensures) in (
-      filled-two (sizeAt (linesOf (c .args .table .now)) (c .args .rows .now)) (256 * c .loop-line .line + 2 * c .loop-row .row) _ _ _ (c .loop-row .sizes) (c .loop-line .sizes) (c .loop-row .inv .0) (omega arith) (omega arith) (h .0) (b .0),
-      filled-two (codeAt (linesOf (c .args .table .now)) (c .args .rows .now)) (256 * c .loop-line .line + 2 * c .loop-row .row) _ _ _ (c .loop-row .plan) (c .loop-line .plan) (c .loop-row .inv .1) (omega arith) (omega arith) (h .1) (b .1),
+      c .put .ensures ∙ filled-two (sizeAt (linesOf (c .args .table .now)) (c .args .rows .now)) (256 * c .loop-line .line + 2 * c .loop-row .row) _ _ _ (c .loop-row .sizes) (c .loop-line .sizes) (c .loop-row .inv .0) (omega arith) (omega arith) (h .0) (b .0),
+      c .put-in-loop-row .ensures ∙ filled-two (codeAt (linesOf (c .args .table .now)) (c .args .rows .now)) (256 * c .loop-line .line + 2 * c .loop-row .row) _ _ _ (c .loop-row .plan) (c .loop-line .plan) (c .loop-row .inv .1) (omega arith) (omega arith) (h .1) (b .1),
     )
 
 pub loop-line-again : need.loop-line-again

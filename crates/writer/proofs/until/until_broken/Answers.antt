@@ -7,7 +7,6 @@ use lib.Dec.{leb, ltb}
 use Rattle.mtl.specs.Cells.{sumCells}
 use Rattle.mtl.specs.Claims.{each}
 use Rattle.mtl.specs.Ranges.{run, keep}
-use Rattle.mtl.specs.Windows.{past}
 use Rattle.mtl.specs.declared.ruling.Ruling.the-variants.{Broken as broken}
 use Rattle.writer.specs.Choice.{cellIn, ofWays, merge, offer}
 use Rattle.writer.specs.Passes.{rule25, farAfter, inAfter}
@@ -41,7 +40,7 @@ returns c =
     rest-after (cellIn (c .args .sizes .now)) (rule25 (c .args .rows .now) (c .args .row) (c .args .window) (c .args .left) (c .args .right)) (c .args .row) (length (c .args .rows .now) - c .end-within-end .result) (c .end-within-end .result) (length (c .args .rows .now)) (omega arith) (c .end-within-end .ensures .low)
     (λ j lo hi. second-false (leb (c .args .row) j && ltb j (length (c .args .rows .now))) _ (past-not (c .args .window .to) _ (c .end-within-end .ensures .after j lo hi))))
     (c .offered-2 .ensures ∙ ap₂ (λ b s. offer b s (256 * 26 + 0))
-    (c .beyond-closed .ensures ∙ ap (past (c .args .window .to)) (c .saturating-sub .ensures))
+    (c .has-closed .ensures)
     (c .loop-j .inv .2 ∙ ap (λ x. sumCells (cellIn (c .args .sizes .now)) 1 (each broken (c .args .right) (keep (inAfter (c .args .rows .now) (c .args .row) (c .args .window)) (run (c .args .row) (x - c .args .row))))) e ∙
     ap (λ xs. sumCells (cellIn (c .args .sizes .now)) 1 (each broken (c .args .right) xs))
     (keep-after (inAfter (c .args .rows .now) (c .args .row) (c .args .window)) (c .args .row) (length (c .args .rows .now) - c .end-within-end .result) (c .end-within-end .result) (length (c .args .rows .now)) (omega arith) (c .end-within-end .ensures .low)

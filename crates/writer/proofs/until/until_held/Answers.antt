@@ -24,7 +24,7 @@ loop-j-holds c =
 pub loop-j-again : need.loop-j-again
 loop-j-again c =
     let way = way24 (cellIn (c .args .sizes .now)) (c .args .rows .now) (c .args .row) (c .args .window) (c .args .left) (c .args .right) (c .loop-j .j) (c .loop-j .sum) (omega arith) (omega arith) (c .loop-j .inv .1) in
-    let best = up (cellIn (c .args .sizes .now)) (rule24 (c .args .rows .now) (c .args .row) (c .args .window) (c .args .left) (c .args .right)) (c .args .row) (c .loop-j .j) (c .loop-j .j + 1) (c .loop-j .best) (c .offered .result) (omega arith) (omega arith) (c .loop-j .inv .0) (cc) in
+    let best = up (cellIn (c .args .sizes .now)) (rule24 (c .args .rows .now) (c .args .row) (c .args .window) (c .args .left) (c .args .right)) (c .args .row) (c .loop-j .j) (c .loop-j .j + 1) (c .loop-j .best) (c .offered-way .result) (omega arith) (omega arith) (c .loop-j .inv .0) (cc) in
     let sum = all-up (cellIn (c .args .sizes .now)) held (c .args .left) (c .args .row) (c .loop-j .j) (c .loop-j .j + 1) (c .loop-j .sum) (omega arith) (omega arith) (c .loop-j .inv .1) in
     (cc, cc)
 

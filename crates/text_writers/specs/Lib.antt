@@ -1,0 +1,5 @@
+pub mod Writing
+pub mod RuleTexts
+pub mod LogTexts
+pub mod Laws
+pub mod Places
