@@ -1,18 +1,17 @@
 -- A written text is cut into the lines and fields that it was written from.
 use mathlib.Core.Path.{_≡_, refl, sym, ap, _∙_}
-use mathlib.Core.Bool.{Bool, true, false, cond, _&&_, _||_}
+use mathlib.Core.Bool.{Bool, true, false, _&&_}
 use mathlib.Core.List.{List, [], _∷_, _++_, map}
 use Prim.Native.Nat.{ℕ, suc, _+_, _-_, _<_, _≤_}
 use native.Mathlib.Omega.{arith}
-use lib.Dec.{eqb, leb, ltb}
+use lib.Dec.{eqb, leb}
 use lib.ListN.{length, getD}
-use Rattle.std.specs.declared.option.Option.the-variants.{Some, None}
+use Rattle.std.specs.declared.option.Option.the-variants.{None}
 use Rattle.std.specs.declared.result.Result.the-variants.{Ok}
 use Rattle.std.specs.shelf.Lists.{leading}
 use Rattle.std.proofs.shelf.Lists.{append-nil, append-assoc, length-append, getD-append-right}
 use Rattle.std.proofs.shelf.Tests.{cond-true, cond-false, and-parts, and-from, eq-eqb, ne-eqb, le-ltb, le-leb, leb-true, or-right}
-use Rattle.std.proofs.shelf.Ways.{tells}
-use Rattle.texts.specs.Bytes.{allowed, ended, lineAt, wrongLine}
+use Rattle.texts.specs.Bytes.{allowed, wrongLine}
 use Rattle.texts.specs.Cuts.{linesOn, linesOf, fieldsOn, fieldsOf, spaced}
 use Rattle.texts.specs.Lines.{partsBy, partsOf}
 use Rattle.text_writers.specs.Writing.{lineEnd, lineText, textOf}

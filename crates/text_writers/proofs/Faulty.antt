@@ -2,7 +2,7 @@
 use mathlib.Core.Path.{_≡_, refl, sym, ap, subst, _∙_}
 use mathlib.Core.Bool.{Bool, true, false, cond, _&&_}
 use mathlib.Core.List.{List, [], _∷_}
-use Prim.Native.Nat.{ℕ, suc, _+_, _^_, _<_, _≤_}
+use Prim.Native.Nat.{ℕ, _+_, _^_, _≤_}
 use native.Mathlib.Omega.{arith}
 use lib.Dec.{ltb, leb, lit≤}
 use lib.ListN.{length}
@@ -14,19 +14,18 @@ use Rattle.std.proofs.shelf.Tests.{and-parts, ltb-true}
 use Rattle.mtl.specs.Questions.{Question, firstNo, answer}
 use Rattle.mtl.specs.Kinds.{kindAt, hasWindow, hasRight}
 use Rattle.mtl.specs.Lines.{Rules}
-use Rattle.mtl.specs.Entering.{enterQuestions, enterAnswer, lineQuestions}
+use Rattle.mtl.specs.Entering.{enterQuestions, lineQuestions}
 use Rattle.mtl.specs.Rows.{lastTime}
 use Rattle.mtl.specs.declared.line.Fields.{Fields}
 use Rattle.mtl.specs.declared.line.Kind.{Kind}
 use Rattle.mtl.specs.declared.row.Row.{Row}
 use Rattle.texts.specs.Cuts.{shaped}
 use Rattle.texts.specs.Faults.{told, inText, inTable, inLog}
-use Rattle.texts.specs.Forms.{Spot, spot, spotAt, faultAt, orFault, inForm, andThen, usedIn, endIn, nextIn, letterIn, restBy, formed}
+use Rattle.texts.specs.Forms.{Spot, spot, faultAt, orFault, inForm, andThen, usedIn, endIn, nextIn, letterIn, restBy, formed}
 use Rattle.texts.specs.Logs.{readRow, addsIf, byLog}
 use Rattle.texts.specs.Marks.{timeIn, bitIn, marksOn, rowIn}
-use Rattle.texts.specs.Outcomes.{Outcome, refuses}
+use Rattle.texts.specs.Outcomes.{refuses}
 use Rattle.texts.specs.Rules.{readRule, entersIf, byTable}
-use Rattle.texts.specs.Tokens.{Said}
 use Rattle.texts.specs.declared.entry.Entry.{Entry}
 use Rattle.texts.specs.declared.fault.TextFault.{TextFault}
 use Rattle.texts.specs.declared.fault.TextFault.the-variants.{WrongForm}

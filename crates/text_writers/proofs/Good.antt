@@ -1,8 +1,8 @@
 -- Fields that are fit for a text, and lines of them.
-use mathlib.Core.Path.{_≡_, refl, sym, ap, _∙_}
+use mathlib.Core.Path.{_≡_, refl}
 use mathlib.Core.Bool.{Bool, true, false, not, _&&_}
-use mathlib.Core.List.{List, [], _∷_, _++_}
-use Prim.Native.Nat.{ℕ, suc, _+_, _*_, _<_, _≤_, _^_}
+use mathlib.Core.List.{List, [], _∷_}
+use Prim.Native.Nat.{ℕ, _+_, _*_, _<_, _≤_, _^_}
 use native.Mathlib.Omega.{arith}
 use lib.Dec.{leb}
 use lib.ListN.{length}
@@ -12,7 +12,7 @@ use Rattle.std.proofs.shelf.Lists.{length-append}
 use Rattle.std.proofs.shelf.Tests.{and-parts, and-from, not-from-false, not-true, leb-true}
 use Rattle.texts.specs.Cuts.{fieldsOf, shaped}
 use Rattle.texts.specs.States.{isNone}
-use Rattle.text_writers.specs.Writing.{lineEnd, lineText, textOf}
+use Rattle.text_writers.specs.Writing.{lineEnd, lineText}
 use Rattle.text_writers.proofs.Cut.{clean, allClean, Plain, more, between, fields-back}
 use Rattle.text_writers.proofs.Numbers.{clean-decimal, some-decimal}
 

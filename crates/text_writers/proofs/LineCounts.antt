@@ -1,14 +1,14 @@
 -- How many lines a text has, and in which of them a place stands.
-use mathlib.Core.Path.{_≡_, refl, sym, ap, subst, _∙_}
+use mathlib.Core.Path.{_≡_, refl, sym, ap, _∙_}
 use mathlib.Core.Bool.{Bool, true, false, cond}
 use mathlib.Core.List.{List, [], _∷_, _++_}
 use Prim.Native.Nat.{ℕ, zero, suc, _+_, _-_, _<_, _≤_}
 use native.Mathlib.Omega.{arith}
 use lib.Dec.{eqb, ltb}
-use lib.ListN.{length, getD, take}
+use lib.ListN.{length, take}
 use Rattle.std.specs.declared.option.Option.the-variants.{Some, None}
 use Rattle.std.specs.shelf.Lists.{countBy, folded, leading}
-use Rattle.std.proofs.shelf.Tests.{cond-both, eqb-true, eq-eqb, ltb-true}
+use Rattle.std.proofs.shelf.Tests.{eqb-true, eq-eqb, ltb-true}
 use Rattle.texts.specs.Bytes.{allowed, ended, lineAt, wrongLine}
 use Rattle.texts.specs.Cuts.{linesOn, linesOf}
 use Rattle.text_writers.specs.Places.{linesIn}

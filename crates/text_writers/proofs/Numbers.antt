@@ -1,21 +1,20 @@
 -- A field of digits and the number that it writes.
 use mathlib.Core.Path.{_≡_, refl, sym, ap, _∙_}
 use mathlib.Core.Bool.{Bool, true, false, cond, not, _&&_}
-use mathlib.Core.List.{List, [], _∷_, _++_}
+use mathlib.Core.List.{List, [], _∷_}
 use mathlib.Core.Logic.{⊎-elim}
-use Prim.Native.Nat.{ℕ, _+_, _-_, _*_, _<_, _≤_, _^_}
+use Prim.Native.Nat.{ℕ, _-_, _<_, _≤_, _^_}
 use native.Mathlib.Omega.{arith}
 use borrow.Author.Needs.{needs}
 use lib.Dec.{eqb, leb, ltb}
 use lib.ListN.{length, getD}
 use Rattle.std.specs.Text.{asciiDigit}
 use Rattle.std.specs.Written.{decimal}
-use Rattle.std.specs.declared.option.Option.{Option}
 use Rattle.std.specs.declared.option.Option.the-variants.{Some, None}
 use Rattle.std.specs.shelf.Text.{allDigits}
 use Rattle.std.proofs.shelf.Decimals.{decimal-digit, decimal-some, first-decimal, digits-decimal, value-decimal, decimal-value}
 use Rattle.std.proofs.shelf.Numerals.{Numerals, numerals-by-fold, tells-allDigits}
-use Rattle.std.proofs.shelf.Tests.{cond-true, and-parts, and-from, and-left, and-right, not-from-false, not-true, cases-eq, eq-eqb, ne-eqb, lt-ltb, ltb-true, ltb-false, le-ltb, le-leb, leb-true, eqb-true, eqb-false}
+use Rattle.std.proofs.shelf.Tests.{cond-true, and-parts, and-from, and-right, not-from-false, not-true, cases-eq, eq-eqb, ne-eqb, lt-ltb, ltb-true, le-leb, leb-true}
 use Rattle.texts.specs.Numbers.{readOn, leadingZero, numeral, numberTo}
 use Rattle.texts.specs.States.{isDash, isNone}
 use Rattle.texts.specs.Tokens.{word, dash, saidBy}

@@ -1,41 +1,33 @@
 -- A written rule line is in form, and the table takes it.
-use mathlib.Core.Path.{_≡_, refl, sym, ap, subst, _∙_}
-use mathlib.Core.Bool.{Bool, true, false, cond, not, _&&_, _||_}
+use mathlib.Core.Path.{_≡_, refl, sym, ap, _∙_}
+use mathlib.Core.Bool.{Bool, true, _&&_}
 use mathlib.Core.List.{List, [], _∷_, _++_}
 use Prim.Native.Nat.{ℕ, _+_, _<_, _≤_, _^_}
 use native.Mathlib.Omega.{arith}
-use lib.Chars.{codes}
-use lib.Dec.{eqb, ltb}
+use lib.Dec.{ltb}
 use lib.ListN.{length}
 use Rattle.std.specs.Written.{decimal}
 use Rattle.std.specs.declared.option.Option.{Option}
 use Rattle.std.specs.declared.option.Option.the-variants.{Some, None}
-use Rattle.std.specs.declared.result.Result.{Result}
-use Rattle.std.specs.declared.result.Result.the-variants.{Ok, Err}
-use Rattle.std.proofs.shelf.Tests.{cond-true, and-parts, and-from, eq-eqb, lt-ltb, ltb-true, not-from-false}
+use Rattle.std.specs.declared.result.Result.the-variants.{Ok}
+use Rattle.std.proofs.shelf.Tests.{cond-true, and-parts, and-from, eq-eqb, ltb-true}
 use Rattle.mtl.specs.Questions.{firstNo, answer}
 use Rattle.mtl.specs.Kinds.{kindAt, hasWindow, hasRight}
 use Rattle.mtl.specs.Lines.{Rules, fits, ordered, present}
-use Rattle.mtl.specs.Entering.{kindQuestions, enterAnswer, linesAfter, afterAnswer, lineOf, lineIf, lineQuestions}
-use Rattle.mtl.specs.declared.line.Fields.{Fields}
+use Rattle.mtl.specs.Entering.{kindQuestions, enterAnswer, afterAnswer, lineOf, lineIf, lineQuestions}
 use Rattle.mtl.specs.declared.line.Kind.{Kind}
 use Rattle.mtl.specs.declared.line.Kind.the-variants.{Mark as KMark, Not as KNot, And as KAnd, Or as KOr, Previous as KPrevious, Next as KNext, Since as KSince, Until as KUntil}
 use Rattle.mtl.specs.declared.line.Line.{Line}
 use Rattle.mtl.specs.declared.line.Line.the-variants.{Mark, Not, And, Or, Previous, Next, Since, Until}
-use Rattle.mtl.specs.declared.line.Window.{Window}
 use Rattle.mtl.proofs.Entered.{asked, line-at}
-use Rattle.texts.specs.Cuts.{shaped}
 use Rattle.texts.specs.Forms.{usedIn, endIn, nextIn, sameNumber, someNumber, letterIn, restBy, formed, spot, orFault, andThen}
-use Rattle.texts.specs.Numbers.{numberAt}
-use Rattle.texts.specs.Outcomes.{Outcome, accepts}
-use Rattle.texts.specs.Rules.{readRule, enters, entersIf, byTable}
-use Rattle.texts.specs.States.{isNone}
-use Rattle.texts.specs.Tokens.{Said, saidBy}
+use Rattle.texts.specs.Outcomes.{accepts}
+use Rattle.texts.specs.Rules.{enters, byTable}
+use Rattle.texts.specs.Tokens.{saidBy}
 use Rattle.texts.specs.declared.entry.Entry.{Entry}
-use Rattle.texts.specs.declared.fault.TextFault.{TextFault}
-use Rattle.text_writers.specs.Laws.{EndFits, WindowFits, LineFits}
+use Rattle.text_writers.specs.Laws.{EndFits, LineFits}
 use Rattle.text_writers.specs.RuleTexts.{unused, endField, ruleFields}
-use Rattle.text_writers.proofs.Numbers.{number-back, said-decimal, some-decimal}
+use Rattle.text_writers.proofs.Numbers.{number-back, said-decimal}
 
 pub used-back : (n : ℕ) → n < 2 ^ 32 → usedIn true (saidBy (decimal n)) ≡ Some n
 used-back n h = ap (usedIn true) (said-decimal n (omega arith)) ∙ number-back 4294967295 n (omega arith) (omega arith)

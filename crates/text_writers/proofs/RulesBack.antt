@@ -1,16 +1,14 @@
 -- The text of a table is read as the table.
 use mathlib.Core.Path.{_≡_, refl, sym, ap, subst, _∙_}
-use mathlib.Core.Bool.{true, false, cond, _&&_}
+use mathlib.Core.Bool.{true, _&&_}
 use mathlib.Core.List.{List, [], _∷_, _++_, map}
-use Prim.Native.Nat.{ℕ, _+_, _*_, _<_, _≤_, _^_}
+use Prim.Native.Nat.{ℕ, _+_, _*_, _<_, _≤_}
 use native.Mathlib.Omega.{arith}
 use lib.Chars.{codes}
 use lib.Dec.{ltb}
 use lib.ListN.{length}
-use Rattle.std.specs.Written.{decimal}
 use Rattle.std.specs.declared.option.Option.{Option}
 use Rattle.std.specs.declared.option.Option.the-variants.{Some, None}
-use Rattle.std.specs.declared.result.Result.the-variants.{Ok}
 use Rattle.std.proofs.shelf.Lists.{append-nil, append-assoc, length-append, length-push, getD-at}
 use Rattle.std.proofs.shelf.Tests.{cond-true, and-parts}
 use Rattle.mtl.specs.Lines.{Rules, fits, ordered, present, WellFormed, lineAt}
@@ -18,7 +16,7 @@ use Rattle.mtl.specs.declared.line.Line.{Line}
 use Rattle.mtl.specs.declared.line.Line.the-variants.{Mark, Not, And, Or, Previous, Next, Since, Until}
 use Rattle.texts.specs.Cuts.{fieldsOf, shaped}
 use Rattle.texts.specs.Outcomes.{accepts, goesOn, readLines, readParts}
-use Rattle.texts.specs.Rules.{readRule, entersIf, readNamed, readRules}
+use Rattle.texts.specs.Rules.{readRule, entersIf, readNamed}
 use Rattle.text_writers.specs.Writing.{lineText, textOf}
 use Rattle.text_writers.specs.RuleTexts.{unused, endField, ruleFields, fieldNames, rulesFrom, rulesText}
 use Rattle.text_writers.specs.Laws.{EndFits, LineFits, WindowsFit, RulesBack}

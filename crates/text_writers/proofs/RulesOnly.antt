@@ -2,7 +2,6 @@
 use mathlib.Core.Path.{_≡_, refl, sym, ap, _∙_}
 use mathlib.Core.Bool.{Bool, true, false, cond}
 use mathlib.Core.List.{List, [], _∷_, _++_}
-use mathlib.Core.Logic.{_⊎_, inl, inr, ⊎-elim}
 use Prim.Native.Nat.{ℕ, _+_}
 use native.Mathlib.Omega.{arith}
 use lib.Chars.{codes}
@@ -20,24 +19,24 @@ use Rattle.std.proofs.shelf.Tests.{eqb-true}
 use Rattle.mtl.specs.Questions.{firstNo, answer}
 use Rattle.mtl.specs.Kinds.{kindAt, hasWindow, hasRight}
 use Rattle.mtl.specs.Lines.{Rules}
-use Rattle.mtl.specs.Entering.{lineQuestions, kindQuestions, enterAnswer, afterAnswer, lineOf, lineIf}
+use Rattle.mtl.specs.Entering.{lineQuestions, afterAnswer, lineOf, lineIf}
 use Rattle.mtl.specs.declared.line.Fields.{Fields}
 use Rattle.mtl.specs.declared.line.Kind.{Kind}
 use Rattle.mtl.specs.declared.line.Kind.the-variants.{Mark, Not, And, Or, Previous, Next, Since, Until}
 use Rattle.mtl.specs.declared.line.Line.{Line}
 use Rattle.texts.specs.Cuts.{fieldsOf, shaped}
-use Rattle.texts.specs.Faults.{told, inText}
+use Rattle.texts.specs.Faults.{inText}
 use Rattle.texts.specs.declared.fault.Told.{Told}
-use Rattle.texts.specs.Forms.{usedIn, endIn, restBy, formed, spot, andThen, inForm, nextIn, letterIn}
+use Rattle.texts.specs.Forms.{usedIn, endIn, restBy, formed, spot, inForm, nextIn, letterIn}
 use Rattle.texts.specs.Lines.{Parts, partsOf}
 use Rattle.texts.specs.Outcomes.{Outcome, refuses, goesOn, readLines, readParts}
-use Rattle.texts.specs.Rules.{readRule, enters, entersIf, byTable, readNamed, readRules}
+use Rattle.texts.specs.Rules.{readRule, enters, entersIf, byTable, readNamed}
 use Rattle.texts.specs.Tokens.{saidBy}
 use Rattle.texts.proofs.Shapes.{shaped-length}
 use Rattle.texts.specs.declared.entry.Entry.{Entry}
 use Rattle.texts.specs.declared.fault.TextFault.{TextFault}
 use Rattle.text_writers.specs.Writing.{lineText, textOf}
-use Rattle.text_writers.specs.RuleTexts.{unused, endField, ruleFields, fieldNames, rulesFrom, rulesText}
+use Rattle.text_writers.specs.RuleTexts.{unused, endField, ruleFields, rulesFrom, rulesText}
 use Rattle.text_writers.specs.Laws.{RulesOnly, RulesDiffer}
 use Rattle.text_writers.proofs.Joined.{joinedLines, split, line-is, went}
 use Rattle.text_writers.proofs.RuleLines.{entry}

@@ -1,8 +1,8 @@
 -- Fields that are in form, and what they were written from.
-use mathlib.Core.Path.{_≡_, refl, sym, ap, _∙_}
+use mathlib.Core.Path.{_≡_, refl, ap, _∙_}
 use mathlib.Core.Bool.{Bool, true, false, cond}
 use mathlib.Core.List.{List, [], _∷_}
-use Prim.Native.Nat.{ℕ, _<_, _≤_, _^_}
+use Prim.Native.Nat.{ℕ}
 use native.Mathlib.Omega.{arith}
 use lib.Dec.{eqb}
 use Rattle.std.specs.Written.{decimal}
@@ -14,7 +14,7 @@ use Rattle.std.proofs.shelf.Tests.{eqb-true}
 use Rattle.texts.specs.Bytes.{letter}
 use Rattle.texts.specs.Forms.{Spot, usedIn, endIn, someNumber, nextIn, sameNumber, letterAt, letterIn, orFault, andThen}
 use Rattle.texts.specs.Marks.{timeIn, bitAt, bitIn}
-use Rattle.texts.specs.Numbers.{numberAt, timeAt}
+use Rattle.texts.specs.Numbers.{numberAt}
 use Rattle.texts.specs.States.{isDash}
 use Rattle.texts.specs.Tokens.{Said, word, dash, saidBy}
 use Rattle.texts.specs.declared.fault.TextFault.{TextFault}

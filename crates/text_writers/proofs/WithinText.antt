@@ -1,5 +1,5 @@
 -- The refusal of a text stands within the text.
-use mathlib.Core.Path.{_≡_, refl, sym, ap, subst, _∙_}
+use mathlib.Core.Path.{_≡_, refl, sym, ap, subst}
 use mathlib.Core.Bool.{Bool, true, false, cond}
 use mathlib.Core.List.{List, [], _∷_}
 use mathlib.Core.Logic.{_⊎_, inl, inr}
@@ -13,16 +13,14 @@ use Rattle.std.specs.declared.option.Option.the-variants.{Some, None}
 use Rattle.std.specs.declared.result.Result.{Result}
 use Rattle.std.specs.declared.result.Result.the-variants.{Ok, Err}
 use Rattle.std.specs.shelf.Text.{sameBytes}
-use Rattle.mtl.specs.Lines.{Rules}
-use Rattle.mtl.specs.declared.row.Row.{Row}
 use Rattle.texts.specs.Bytes.{wrongLine}
 use Rattle.texts.specs.Cuts.{linesOf, fieldsOf}
 use Rattle.texts.specs.Faults.{inText}
 use Rattle.texts.specs.Lines.{Parts, partsBy, partsOf}
-use Rattle.texts.specs.Logs.{readRow, readRows, readTimed, readLog}
+use Rattle.texts.specs.Logs.{readRow, readRows, readTimed}
 use Rattle.texts.specs.Names.{namesIn}
 use Rattle.texts.specs.Outcomes.{Outcome, refuses, goesOn, readLines, readParts}
-use Rattle.texts.specs.Rules.{readRule, readNamed, readRules}
+use Rattle.texts.specs.Rules.{readRule, readNamed}
 use Rattle.texts.specs.declared.fault.Told.{Told}
 use Rattle.text_writers.specs.Places.{linesIn, Within, RulesWithin, LogsWithin}
 use Rattle.text_writers.proofs.Faulty.{At, rule-at, row-at}
