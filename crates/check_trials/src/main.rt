@@ -80,22 +80,43 @@ fn worked_log() -> MaskLog {
     log_of(&rows)
 }
 
+// Every value of one byte, in runs of values that get the same answer.
+fn byte_changed(
+    rt: &LibcRuntime,
+    table: &Table,
+    log: &MaskLog,
+    stack: &mut [Claim],
+    at: usize,
+) -> io::Result<()> {
+    let mut first = 0;
+    let mut told = String::new(rt.alloc());
+    for value in 0..256u16 {
+        let mut changed = WORKED;
+        if at < 18 {
+            changed[at] = (value & 0xff) as u8;
+        }
+        let answer = Answer {
+            told: check(table, log, &changed, stack),
+        };
+        let next = format!(rt.alloc(), "{answer}")?;
+        if value > 0 && next != told {
+            let last = value - 1;
+            println!(rt, "byte {at} = {first} to {last}: {told}")?;
+            first = value;
+        }
+        told = next;
+    }
+    println!(rt, "byte {at} = {first} to 255: {told}")
+}
+
 fn bytes_changed(
-    out: &impl Print,
+    rt: &LibcRuntime,
     table: &Table,
     log: &MaskLog,
     stack: &mut [Claim],
 ) -> io::Result<()> {
     for at in 0..18 {
-        let was = WORKED[at];
-        for value in [was.wrapping_add(1), was.wrapping_sub(1), 0, 255] {
-            let mut changed = WORKED;
-            changed[at] = value;
-            let answer = Answer {
-                told: check(table, log, &changed, stack),
-            };
-            println!(out, "byte {at} = {value}: {answer}")?;
-        }
+        byte_changed(rt, table, log, stack, at)?;
     }
     Ok(())
 }
