@@ -5,30 +5,21 @@ use mtl::line::Fields;
 use mtl::row::Row;
 use mtl::table::Table;
 
-// The clamp, the heel, and a since or an until over them with a window from 0 to 5.
-pub(crate) fn table_of(letter: char) -> Table {
+fn fields(from: u32, to: Option<u32>, left: u32, right: u32) -> Fields {
+    Fields {
+        from,
+        to,
+        left,
+        right,
+    }
+}
+
+// The clamp, the heel, and a since or an until over them with a window.
+pub(crate) fn table_of(letter: char, from: u32, to: Option<u32>) -> Table {
     let mut draft = Draft::new();
-    let clamp = Fields {
-        from: 0,
-        to: None,
-        left: 0,
-        right: 0,
-    };
-    let heel = Fields {
-        from: 0,
-        to: None,
-        left: 1,
-        right: 0,
-    };
-    let both = Fields {
-        from: 0,
-        to: Some(5),
-        left: 0,
-        right: 1,
-    };
-    let _ = draft.enter('m', clamp);
-    let _ = draft.enter('m', heel);
-    let _ = draft.enter(letter, both);
+    let _ = draft.enter('m', fields(0, None, 0, 0));
+    let _ = draft.enter('m', fields(0, None, 1, 0));
+    let _ = draft.enter(letter, fields(from, to, 0, 1));
     draft.close()
 }
 
@@ -74,13 +65,42 @@ pub(crate) fn since_calls<'a>(certificate: &'a [u8], false_one: &'a [u8]) -> [Ca
     ]
 }
 
+// No row lies inside the window: one node.
+pub(crate) fn far_calls<'a>() -> [Call<'a>; 4] {
+    [add(0, 1), add(10, 1), settle(1), show(1)]
+}
+
+// The log begins inside the window's start: one node, but not by rule 22.
+pub(crate) fn early_calls<'a>(by_22: &'a [u8]) -> [Call<'a>; 6] {
+    [
+        add(0, 1),
+        add(2, 1),
+        Call::Present(by_22),
+        show(1),
+        settle(1),
+        show(1),
+    ]
+}
+
 // A row at exactly the window's end leaves the until open; a later one closes it.
-pub(crate) fn until_calls<'a>() -> [Call<'a>; 7] {
+pub(crate) fn closed_calls<'a>() -> [Call<'a>; 7] {
     [
         add(0, 1),
         add(5, 1),
         settle(0),
         show(0),
+        add(6, 1),
+        settle(0),
+        show(0),
+    ]
+}
+
+// The clamp is off at the window's end; a later row then allows a shorter certificate of the same ruling.
+pub(crate) fn left_calls<'a>() -> [Call<'a>; 6] {
+    [
+        add(0, 1),
+        add(5, 0),
+        settle(0),
         add(6, 1),
         settle(0),
         show(0),
