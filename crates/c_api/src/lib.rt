@@ -1,4 +1,6 @@
 //! The calls for a program in C or Rust: exported functions over bytes, which keep nothing.
+#![tactic(auto)]
+
 pub mod answer;
 mod border;
 pub mod calls;

@@ -1,4 +1,5 @@
 //! Trials of the exported functions on the worked example, as another program calls them.
+#![tactic(auto)]
 
 #[cfg(test)]
 mod tests;

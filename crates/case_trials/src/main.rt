@@ -1,4 +1,6 @@
 //! Makes the same calls on a case over each growing kind of log, and prints every answer.
+#![tactic(auto)]
+
 mod answers;
 mod calls;
 

@@ -1,4 +1,6 @@
 //! The case: a rule table, a growing log, and a book that keeps the rulings.
+#![tactic(auto)]
+
 mod book;
 pub mod case;
 pub mod entry;

@@ -1,5 +1,7 @@
 // Trials of Check over mask logs: the worked certificate, every change of one of its bytes and every cut,
 // the largest and the smallest sizes, and a few certificates of since and until at the ends of their windows.
+#![tactic(auto)]
+
 mod answer;
 
 use answer::Answer;

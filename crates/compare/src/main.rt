@@ -1,4 +1,6 @@
 //! Tries Settle and Check from outside: random tables, logs and certificates, each answer compared with the evaluator's.
+#![tactic(auto)]
+
 mod bench;
 mod checking;
 mod settling;

@@ -1,4 +1,6 @@
 //! Tries the calls of a case and of a draft from outside: random lists of calls, each answer compared with a model's.
+#![tactic(auto)]
+
 mod calls;
 mod drafts;
 mod model;

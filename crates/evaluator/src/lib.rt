@@ -1,5 +1,7 @@
 //! A second evaluator, coded apart from the library: truth, ways to rule, least certificates, their reading, and reach, each straight
 //! from its definition. It shares no type and no function with the crates that it is compared with.
+#![tactic(auto)]
+
 pub mod reach;
 pub mod reading;
 pub mod rules;

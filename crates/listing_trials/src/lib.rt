@@ -1,4 +1,5 @@
 //! Trials of the listing: inputs, and the listings that they give.
+#![tactic(auto)]
 
 #[cfg(test)]
 mod tests {

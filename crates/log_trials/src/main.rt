@@ -1,4 +1,6 @@
 //! Runs the same rows through the three kinds of log, and compares every answer with the rows themselves.
+#![tactic(auto)]
+
 mod compare;
 mod inputs;
 

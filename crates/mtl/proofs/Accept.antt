@@ -1,10 +1,10 @@
-use Rattle.std.proofs.Common.{◌≡◌, ℕ, suc, ◌+◌, ◌-◌, ◌<◌, ◌≤◌, Bool, true, false, cond, ◌&&◌, T as Yes, eqb, ltb, leb, ◌↔◌, List, [], ◌∷◌, ◌++◌, length, take, drop, Some, None, Option, sym, refl, ap, ◌∙◌, subst, ap₂, arith, le→leb, eqb→eq, ltb→lt, lt→ltb, leb→le, length-append, length-drop, take-append-drop}
+use Rattle.std.proofs.Common.{◌≡◌, ℕ, suc, ◌-◌, ◌<◌, ◌≤◌, Bool, true, false, cond, ◌&&◌, T as Yes, eqb, leb, ◌↔◌, List, [], ◌∷◌, ◌++◌, length, take, drop, Some, None, Option, sym, refl, ap, ◌∙◌, subst, ap₂, arith, le→leb, eqb→eq, ltb→lt, lt→ltb, leb→le, length-append, length-drop, take-append-drop}
 use lib.Dec.{eqb_refl}
 use Rattle.mtl.specs.Certificates.{node_of, Cert}
 use Rattle.mtl.specs.Checking.{form_at, alike, all_alike, each_alike, same_rows, count_fits, lines_fit, Went, stops, goes, went, node_questions, node_by, node_step, Verdict, accepted, refused, ended, checks}
 use Rattle.mtl.specs.Claims.{Claim, Ruling, held, broken, Node, each, first_row, same_ruling}
 use Rattle.mtl.specs.Follows.{Follows}
-use Rattle.mtl.specs.Forms.{exactly, Form, form, forms}
+use Rattle.mtl.specs.Forms.{exactly, Form, forms}
 use Rattle.mtl.specs.Lines.{Line, mark, neg, and, or, previous, next, since, until, Rules, line_at}
 use Rattle.mtl.specs.Questions.{first_no}
 use Rattle.mtl.specs.Rows.{Row}

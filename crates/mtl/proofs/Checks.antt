@@ -1,8 +1,8 @@
-use Rattle.std.proofs.Common.{◌≡◌, ℕ, ◌+◌, ◌-◌, ◌<◌, not, ◌&&◌, T as Yes, eqb, ltb, leb, List, length, sym, refl, subst, arith, le→leb, eqb→eq, ltb→lt, lt→ltb, leb→le, T_not}
+use Rattle.std.proofs.Common.{◌≡◌, ℕ, ◌+◌, ◌-◌, ◌<◌, ◌&&◌, T as Yes, ltb, leb, List, length, sym, refl, subst, arith, le→leb, eqb→eq, ltb→lt, lt→ltb, leb→le, T_not}
 use lib.Dec.{not_T}
 use Rattle.mtl.specs.Claims.{Claim, Ruling, held, broken, first_row}
 use Rattle.mtl.specs.Follows.{Follows, rule_1, rule_2, rule_3, rule_4, rule_5, rule_6, rule_7, rule_8, rule_9, rule_10, rule_11, rule_12, rule_13, rule_14, rule_15, rule_16, rule_17, rule_18, rule_19, rule_20, rule_21, rule_22, rule_23, rule_24, rule_25, rule_26, LineIs}
-use Rattle.mtl.specs.Forms.{Form, form, forms}
+use Rattle.mtl.specs.Forms.{Form, forms}
 use Rattle.mtl.specs.Lines.{Line, mark, neg, and, or, previous, next, since, until, Rules, line_at}
 use Rattle.mtl.specs.Rows.{Row, row_at, time_at}
 use Rattle.mtl.specs.Windows.{up_to}

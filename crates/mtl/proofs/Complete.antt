@@ -1,7 +1,7 @@
-use Rattle.std.proofs.Common.{◌≡◌, ℕ, zero, suc, ◌+◌, ◌-◌, ◌<◌, ◌≤◌, leb, ◌⊎◌, List, [], ◌∷◌, ◌++◌, map, length, refl, ap, subst, inl, inr, le_refl, arith, leb→le}
+use Rattle.std.proofs.Common.{◌≡◌, ℕ, zero, suc, ◌+◌, ◌-◌, ◌<◌, ◌≤◌, ◌⊎◌, List, [], ◌∷◌, ◌++◌, length, refl, subst, inl, inr, le_refl, arith, leb→le}
 use native.Mathlib.Decide.{dec_le, dec_lt, ℕ_discrete}
 use Rattle.mtl.specs.Certificates.{Certs, node, none, more, Certified}
-use Rattle.mtl.specs.Claims.{Claim, Held, Broken, held, broken, Node}
+use Rattle.mtl.specs.Claims.{Claim, Held, Broken, Node}
 use Rattle.mtl.specs.Follows.{Follows, rule_1, rule_2, rule_3, rule_4, rule_5, rule_6, rule_7, rule_8, rule_9, rule_10, rule_11, rule_12, rule_13, rule_14, rule_15, rule_16, rule_17, rule_18, rule_19, rule_20, rule_21, rule_22, rule_23, rule_24, rule_25, rule_26, LineIs}
 use Rattle.mtl.specs.Formulas.{shape, formula}
 use Rattle.mtl.specs.Lines.{Window, Line, mark, neg, and, or, previous, next, since, until, Rules, line_at, WellFormed}

@@ -1,9 +1,8 @@
 -- The lines after an entry.
-use Rattle.std.proofs.Common.{◌≡◌, ℕ, ◌+◌, ◌<◌, ◌≤◌, Bool, true, false, cond, ltb, ◌≢◌, List, [], ◌∷◌, ◌++◌, length, get_or, take, set, Some, None, Ok, Err, Option, sym, refl, ap, ◌∙◌, subst, ⊎_elim, arith}
-use Rattle.std.proofs.lemmas.List.{length-take-le, length-set, get_or-take, get_or-set_same, get_or-set_other, take_more_set}
+use Rattle.std.proofs.Common.{◌≡◌, ℕ, ◌+◌, ◌<◌, true, ltb, ◌≢◌, List, [], ◌∷◌, length, get_or, take, set, Some, Option, sym, ap, ◌∙◌, subst, ⊎_elim, arith}
+use Rattle.std.proofs.lemmas.List.{length-take-le, length-set, get_or-take, get_or-set_same, get_or-set_other}
 use Rattle.std.proofs.lemmas.Bool.{cond-true, lt-ltb, cases_eq}
-use Rattle.mtl.specs.Questions.{first_no, answer}
-use Rattle.mtl.specs.Kinds.{kind_at}
+use Rattle.mtl.specs.Questions.{first_no}
 use Rattle.mtl.specs.Lines.{Line, mark, fits, WellFormed}
 use Rattle.mtl.specs.Entering.{line_questions, kind_questions, line_if, line_of}
 use Rattle.mtl.specs.declared.line.Fields.{Fields}

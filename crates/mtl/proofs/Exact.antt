@@ -1,16 +1,15 @@
 -- Check accepts exactly the certificates, and a refusal tells the first node and question.
-use Rattle.std.proofs.Common.{◌≡◌, ℕ, zero, suc, ◌*◌, ◌/◌, ◌%◌, ◌<◌, ◌≤◌, T as Yes, eqb, ltb, leb, ◌⊎◌, List, [], ◌∷◌, ◌++◌, length, Some, None, Option, sym, refl, ap, ◌∙◌, subst, inl, inr, append_assoc, arith, le→leb, eqb→eq, ltb→lt, lt→ltb, leb→le, length-append}
-use Rattle.mtl.specs.Questions.{Question, first_no}
+use Rattle.std.proofs.Common.{◌≡◌, ℕ, suc, ◌*◌, ◌/◌, ◌%◌, ◌<◌, ◌≤◌, ltb, List, [], ◌∷◌, ◌++◌, length, Some, None, Option, sym, refl, ap, ◌∙◌, subst, inl, inr, append_assoc, arith, le→leb, eqb→eq, lt→ltb, leb→le, length-append}
+use Rattle.mtl.specs.Questions.{first_no}
 use Rattle.mtl.specs.Rows.{Row}
-use Rattle.mtl.specs.Lines.{Rules, WellFormed, line_at}
-use Rattle.mtl.specs.Claims.{Claim, Node, claim}
+use Rattle.mtl.specs.Lines.{Rules, WellFormed}
+use Rattle.mtl.specs.Claims.{Claim, Node}
 use Rattle.mtl.specs.Certificates.{node_of, Cert, node}
 use Rattle.mtl.specs.Bytes.{nodes, bytes}
-use Rattle.mtl.specs.Forms.{forms}
-use Rattle.mtl.specs.Checking.{Went, stops, goes, went, questions_at, node_step, Verdict, accepted, refused, ended, checks, check_questions, unless, check_answer}
+use Rattle.mtl.specs.Checking.{Went, stops, goes, went, questions_at, node_step, Verdict, accepted, refused, checks, check_questions, unless, check_answer}
 use Rattle.mtl.specs.Waiting.{Leaves, stop, take as takes, Stops, at_node, at_end}
 use Rattle.mtl.specs.Laws.{IsCertificate, RefusedBy, CheckSays}
-use Rattle.mtl.proofs.Tests.{both, fst_of, snd_of, eq_test}
+use Rattle.mtl.proofs.Tests.{both, snd_of, eq_test}
 use Rattle.mtl.proofs.Lists.{append_none}
 use Rattle.mtl.proofs.Asked.{all_yes, yes_all}
 use Rattle.mtl.proofs.Machine.{runs_append}

@@ -1,4 +1,4 @@
-use Rattle.std.proofs.Common.{◌≡◌, ℕ, zero, suc, ◌+◌, ◌-◌, ◌<◌, ◌≤◌, Bool, true, false, T as Yes, List, [], ◌∷◌, sym, subst, arith}
+use Rattle.std.proofs.Common.{ℕ, zero, suc, ◌+◌, ◌<◌, ◌≤◌, Bool, true, false, T as Yes, List, [], ◌∷◌, sym, subst, arith}
 use native.Mathlib.Decide.{ℕ_discrete}
 use Rattle.mtl.specs.Forms.{Step, guard, for_each}
 use Rattle.mtl.specs.Ranges.{run}

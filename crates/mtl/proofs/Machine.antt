@@ -1,7 +1,6 @@
-use Rattle.std.proofs.Common.{◌≡◌, ℕ, ◌+◌, ◌-◌, ◌↔◌, List, [], ◌∷◌, ◌++◌, sym, refl, ap, ◌∙◌, subst, append_assoc}
+use Rattle.std.proofs.Common.{◌≡◌, ◌↔◌, List, [], ◌∷◌, ◌++◌, sym, refl, ap, ◌∙◌, subst, append_assoc}
 use Rattle.mtl.specs.Certificates.{node_of, Cert, Certs, node, none, more}
 use Rattle.mtl.specs.Claims.{Claim, Node}
-use Rattle.mtl.specs.Follows.{Follows}
 use Rattle.mtl.specs.Lines.{Rules}
 use Rattle.mtl.specs.Rows.{Row}
 use Rattle.mtl.specs.Waiting.{Leaves, stop, take}

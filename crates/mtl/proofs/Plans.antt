@@ -1,12 +1,11 @@
-use Rattle.std.proofs.Common.{◌≡◌, ℕ, zero, suc, ◌-◌, ◌<◌, ◌≤◌, min, Bool, true, false, cond, not, T as Yes, leb, ◌⊎◌, List, [], ◌∷◌, length, Some, None, Option, sym, refl, ap, ◌∙◌, subst, ap₂, inl, inr, arith, le→leb, leb→le}
+use Rattle.std.proofs.Common.{◌≡◌, ℕ, zero, suc, ◌<◌, ◌≤◌, min, Bool, true, false, cond, not, T as Yes, leb, ◌⊎◌, List, [], ◌∷◌, length, Some, None, Option, sym, refl, ap, ◌∙◌, subst, ap₂, inl, inr, arith, le→leb, leb→le}
 use lib.Dec.{nleb→lt}
 use Rattle.mtl.specs.Cells.{cell, sum_cells, best_cell, first_of, planned}
-use Rattle.mtl.specs.Certificates.{node_of}
 use Rattle.mtl.specs.Claims.{Claim, Node}
 use Rattle.mtl.specs.Forms.{Step, steps}
 use Rattle.mtl.specs.Lines.{Rules, WellFormed}
 use Rattle.mtl.specs.Rows.{Row}
-use Rattle.mtl.specs.Shortest.{attempt, chained, shorter, of_all, of_any, certificate}
+use Rattle.mtl.specs.Shortest.{attempt, shorter, of_all, of_any, certificate}
 use Rattle.mtl.proofs.Filled.{Filled, sum_cells_lem, close, filled_chained, filled_any, best_cell_lem, certificate_at, on_kids}
 use Rattle.mtl.specs.Lists.{AllOf}
 

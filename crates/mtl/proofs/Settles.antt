@@ -1,8 +1,8 @@
 -- What the answers of Check and Settle say of certificates.
-use Rattle.std.proofs.Common.{◌≡◌, ℕ, ◌+◌, ◌-◌, ◌*◌, ◌/◌, ◌%◌, ◌<◌, ◌≤◌, T as Yes, eqb, ltb, leb, ◌⊎◌, List, [], ◌∷◌, length, Some, None, Ok, Err, Option, Result, sym, refl, ap, ◌∙◌, subst, ap₂, inl, inr, arith, le→leb, ltb→lt, lt→ltb, leb→le, length-append}
+use Rattle.std.proofs.Common.{◌≡◌, ℕ, ◌*◌, ◌<◌, ◌≤◌, leb, ◌⊎◌, List, [], ◌∷◌, length, Some, None, Ok, Err, Option, Result, sym, refl, ap, ◌∙◌, subst, inl, inr, arith, le→leb, ltb→lt, lt→ltb, leb→le}
 use Rattle.mtl.specs.Bytes.{nodes, bytes}
-use Rattle.mtl.specs.Certificates.{node_of, Cert, node, Certified}
-use Rattle.mtl.specs.Checking.{Verdict, accepted, checks, check_questions, unless, check_answer}
+use Rattle.mtl.specs.Certificates.{Cert, node, Certified}
+use Rattle.mtl.specs.Checking.{accepted, check_answer}
 use Rattle.mtl.specs.Claims.{Claim, Ruling, held, broken, Held, Broken, Node, claim}
 use Rattle.mtl.specs.Formulas.{formula}
 use Rattle.mtl.specs.Lines.{Rules, WellFormed}
@@ -11,8 +11,7 @@ use Rattle.mtl.specs.Reach.{Reach}
 use Rattle.mtl.specs.Rows.{Row, NeverFalls}
 use Rattle.mtl.specs.Settling.{Settlement, one_of, settlement, Lengths, any, proof_of, ruling_of, Settled, settle_questions, settle_by, settle_answer, settle_writes, Some-certificate, SettleAsks}
 use Rattle.mtl.specs.Shortest.{certificate, Best}
-use Rattle.mtl.proofs.Accept.{check_is}
-use Rattle.mtl.proofs.Asked.{all_yes, yes_all, Test, first_not}
+use Rattle.mtl.proofs.Asked.{yes_all, Test, first_not}
 use Rattle.mtl.proofs.Checks.{formed}
 use Rattle.mtl.proofs.Complete.{complete}
 use Rattle.mtl.proofs.Consistent.{one_ruling}

@@ -1,10 +1,10 @@
-use Rattle.std.proofs.Common.{◌≡◌, ℕ, zero, suc, ◌+◌, ◌-◌, ◌<◌, ◌≤◌, Bool, true, false, cond, not, T as Yes, leb, ◌⊎◌, List, [], ◌∷◌, ◌++◌, length, Some, None, Option, sym, refl, ap, ◌∙◌, subst, inl, inr, arith, leb→le, length-append}
+use Rattle.std.proofs.Common.{◌≡◌, ℕ, zero, suc, ◌<◌, ◌≤◌, Bool, true, false, cond, not, T as Yes, leb, ◌⊎◌, List, [], ◌∷◌, ◌++◌, length, Some, None, Option, sym, refl, ap, ◌∙◌, subst, inl, inr, arith, leb→le, length-append}
 use lib.Dec.{nleb→lt}
 use Rattle.mtl.specs.Certificates.{node_of, Cert, Certs, node, none, more}
 use Rattle.mtl.specs.Claims.{Claim, Ruling, held, broken, Node, each}
 use Rattle.mtl.specs.Follows.{Follows, rule_1, rule_2, rule_3, rule_4, rule_5, rule_6, rule_7, rule_8, rule_9, rule_10, rule_11, rule_12, rule_13, rule_14, rule_15, rule_16, rule_17, rule_18, rule_19, rule_20, rule_21, rule_22, rule_23, rule_24, rule_25, rule_26, LineIs}
-use Rattle.mtl.specs.Forms.{Step, by, steps}
-use Rattle.mtl.specs.Lines.{Line, and, Rules, WellFormed}
+use Rattle.mtl.specs.Forms.{Step, steps}
+use Rattle.mtl.specs.Lines.{Line, Rules, WellFormed}
 use Rattle.mtl.specs.Rows.{Row}
 use Rattle.mtl.specs.Shortest.{chained, shorter, of_all, of_any, written, certificate, Best}
 use Rattle.mtl.specs.Lists.{AllOf, AnyOf, here, there}

@@ -1,4 +1,4 @@
-use Rattle.std.proofs.Common.{◌≡◌, ℕ, zero, suc, ◌+◌, ◌-◌, ◌<◌, ◌≤◌, T as Yes, leb, List, map, length, sym, refl, ap, ◌∙◌, subst, inl, inr, le_refl, arith, le→leb}
+use Rattle.std.proofs.Common.{◌≡◌, ℕ, zero, suc, ◌+◌, ◌-◌, ◌<◌, ◌≤◌, T as Yes, leb, List, length, sym, ap, ◌∙◌, subst, inl, inr, le_refl, arith, le→leb}
 use native.Mathlib.Decide.{dec_lt, ℕ_discrete}
 use Rattle.mtl.specs.Certificates.{Cert, Certs, node, none, more}
 use Rattle.mtl.specs.Claims.{Claim, Held, Broken, Node}

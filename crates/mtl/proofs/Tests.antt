@@ -1,5 +1,5 @@
 -- Tests and the statements that they decide.
-use Rattle.std.proofs.Common.{◌≡◌, ℕ, ◌/◌, ◌%◌, ◌^◌, ◌<◌, ◌≤◌, Bool, true, false, ◌&&◌, T as Yes, eqb, ltb, leb, ◌⊎◌, Some, None, Option, sym, subst, inl, inr, arith, le→leb, eqb→eq, ltb→lt, lt→ltb, leb→le}
+use Rattle.std.proofs.Common.{◌≡◌, ℕ, ◌/◌, ◌%◌, ◌^◌, ◌≤◌, Bool, true, false, ◌&&◌, T as Yes, eqb, ltb, leb, ◌⊎◌, Some, None, Option, sym, subst, inl, inr, arith, le→leb, eqb→eq, ltb→lt, lt→ltb, leb→le}
 use native.Mathlib.Decide.{dec_le}
 use lib.Dec.{eqb_refl}
 use Rattle.mtl.specs.Rows.{Row, Stands, stands}

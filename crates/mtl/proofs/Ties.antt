@@ -1,4 +1,4 @@
-use Rattle.std.proofs.Common.{◌≡◌, ℕ, zero, suc, ◌+◌, ◌-◌, ◌<◌, ◌≤◌, Bool, true, false, cond, not, T as Yes, leb, ◌⊎◌, List, [], ◌∷◌, ◌++◌, length, Some, None, Option, sym, refl, ap, ◌∙◌, subst, ap₂, inl, inr, le_refl, arith, leb→le, length-append}
+use Rattle.std.proofs.Common.{◌≡◌, ℕ, zero, suc, ◌+◌, ◌<◌, ◌≤◌, Bool, true, false, cond, not, T as Yes, leb, ◌⊎◌, List, [], ◌∷◌, ◌++◌, length, Some, None, Option, sym, refl, ap, ◌∙◌, subst, ap₂, inl, inr, le_refl, arith, leb→le, length-append}
 use native.Mathlib.Decide.{dec_lt}
 use lib.Dec.{nleb→lt}
 use Rattle.mtl.specs.Certificates.{node_of, Cert, Certs, node, none, more}
@@ -6,7 +6,7 @@ use Rattle.mtl.specs.Chosen.{Ahead, Chosen, ChosenAll, chosen, chosen_none, chos
 use Rattle.mtl.specs.Claims.{Claim, Node}
 use Rattle.mtl.specs.Follows.{Follows}
 use Rattle.mtl.specs.Forms.{Step, by, steps}
-use Rattle.mtl.specs.Lines.{and, or, Rules, line_at, WellFormed}
+use Rattle.mtl.specs.Lines.{Rules, line_at, WellFormed}
 use Rattle.mtl.specs.Rows.{Row}
 use Rattle.mtl.specs.Shortest.{chained, shorter, of_all, of_any, written, certificate, Best}
 use Rattle.mtl.proofs.Accept.{rises}

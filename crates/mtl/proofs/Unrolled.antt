@@ -1,4 +1,4 @@
-use Rattle.std.proofs.Common.{◌≡◌, ℕ, zero, suc, ◌-◌, ◌<◌, length, refl, ap, ap₂, arith}
+use Rattle.std.proofs.Common.{◌≡◌, ℕ, zero, suc, ◌<◌, length, refl, ap, ap₂, arith}
 use Rattle.mtl.specs.Formulas.{Formula, Not, And, Or, Previous, Next, Since, Until, shape, unrolled, formula}
 use Rattle.mtl.specs.Lines.{Line, mark, neg, and, or, previous, next, since, until, Rules, line_at, WellFormed}
 use Rattle.mtl.proofs.Operands.{Earlier, earlier_at}

@@ -1,12 +1,9 @@
 -- The laws, each from the file that proves it.
-use Rattle.std.proofs.Common.{◌≡◌, ℕ, ◌<◌, ◌↔◌, List, [], length, get_or, Some, None, Option, sym, refl, ap, ◌∙◌, subst, arith}
-use Rattle.mtl.specs.Rows.{Row}
-use Rattle.mtl.specs.Lines.{Rules, WellFormed}
-use Rattle.mtl.specs.Claims.{Claim, Node}
+use Rattle.std.proofs.Common.{◌≡◌, List, Some, None, Option, refl, ap, ◌∙◌, subst}
+use Rattle.mtl.specs.Claims.{Node}
 use Rattle.mtl.specs.Follows.{Follows}
 use Rattle.mtl.specs.Certificates.{Cert}
-use Rattle.mtl.specs.Forms.{Step, steps}
-use Rattle.mtl.specs.Checking.{accepted}
+use Rattle.mtl.specs.Forms.{steps}
 use Rattle.mtl.specs.Shortest.{certificate, Best}
 use Rattle.mtl.specs.Chosen.{Chosen}
 use Rattle.mtl.specs.Laws as laws

@@ -1,5 +1,5 @@
 -- What Settle leaves in the buffers that it is lent.
-use Rattle.std.specs.Prelude.{◌≡◌, ℕ, ◌*◌, ◌/◌, ◌%◌, Bool, false, cond, List, ◌++◌, map, length, drop, Ok, Err, Result, ◌==◌, nat_le}
+use Rattle.std.specs.Prelude.{◌≡◌, ℕ, ◌/◌, ◌%◌, Bool, false, cond, List, ◌++◌, map, length, drop, Ok, Err, Result, ◌==◌, nat_le}
 use Rattle.mtl.specs.Rows.{Row}
 use Rattle.mtl.specs.Lines.{Rules}
 use Rattle.mtl.specs.Ranges.{run}

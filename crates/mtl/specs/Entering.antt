@@ -1,5 +1,5 @@
 -- What it takes to enter a line, and the lines afterwards.
-use Rattle.std.specs.Prelude.{◌≡◌, ℕ, Bool, true, false, cond, not, ◌&&◌, ◌||◌, List, [], ◌∷◌, ◌++◌, length, Some, None, Ok, Err, Option, Result, nat_lt}
+use Rattle.std.specs.Prelude.{◌≡◌, ℕ, true, false, cond, not, ◌&&◌, ◌||◌, List, [], ◌∷◌, ◌++◌, length, Some, None, Ok, Err, Option, Result, nat_lt}
 use Rattle.mtl.specs.Questions.{Question, first_no, answer, numbered}
 use Rattle.mtl.specs.Kinds.{kind_at, is_mark, has_right, has_window, is_until}
 use Rattle.mtl.specs.Lines.{Rules, Window, Line, mark, neg, and, or, previous, next, since, until, ordered, present, fits}

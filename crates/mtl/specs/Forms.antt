@@ -1,6 +1,6 @@
 -- The proof rules once more, in executable form: for checking a node and for enumerating the ways to rule a claim.
-use Rattle.std.specs.Prelude.{ℕ, suc, ◌+◌, ◌-◌, Bool, true, false, cond, not, ◌&&◌, leb, List, [], ◌∷◌, ◌++◌, length, ◌==◌, nat_le, nat_lt}
-use Rattle.mtl.specs.Rows.{Row, row_at, time_at, last_time, stands}
+use Rattle.std.specs.Prelude.{ℕ, suc, ◌+◌, ◌-◌, Bool, true, cond, not, ◌&&◌, leb, List, [], ◌∷◌, ◌++◌, length, ◌==◌, nat_le, nat_lt}
+use Rattle.mtl.specs.Rows.{Row, row_at, time_at, stands}
 use Rattle.mtl.specs.Lines.{Line, mark, neg, and, or, previous, next, since, until, Rules, line_at}
 use Rattle.mtl.specs.Windows.{inside, up_to, past}
 use Rattle.mtl.specs.Ranges.{run, range, keep}

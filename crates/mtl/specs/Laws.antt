@@ -1,10 +1,10 @@
 -- The laws of the subject, and what the answers of Check and Settle say by them.
-use Rattle.std.specs.Prelude.{◌≡◌, ℕ, ◌*◌, ◌%◌, ◌<◌, ◌≤◌, ◌⊎◌, ◌↔◌, List, [], length, Some, None, Ok, Err, Result, ◌≢◌, slice_index, slice_index_or}
+use Rattle.std.specs.Prelude.{◌≡◌, ℕ, ◌*◌, ◌%◌, ◌<◌, ◌≤◌, ◌⊎◌, ◌↔◌, List, length, Some, None, Ok, Err, Result, ◌≢◌, slice_index, slice_index_or}
 use Rattle.mtl.specs.Questions.{first_no, FirstNot}
 use Rattle.mtl.specs.Rows.{Row, NeverFalls}
 use Rattle.mtl.specs.Lines.{Rules, WellFormed}
 use Rattle.mtl.specs.Formulas.{formula}
-use Rattle.mtl.specs.Claims.{Claim, Ruling, Node, claim, Held, Broken}
+use Rattle.mtl.specs.Claims.{Claim, Node, claim, Held, Broken}
 use Rattle.mtl.specs.Continuations.{Always}
 use Rattle.mtl.specs.Follows.{Follows}
 use Rattle.mtl.specs.Certificates.{Cert, Certified}
@@ -16,7 +16,7 @@ use Rattle.mtl.specs.Waiting.{Stops}
 use Rattle.mtl.specs.Shortest.{certificate, attempt, Best}
 use Rattle.mtl.specs.Chosen.{Chosen}
 use Rattle.mtl.specs.Cells.{cell, best_cell, planned}
-use Rattle.mtl.specs.Settling.{Settled, Lengths, SettleAsks, settle_answer, settle_writes, wrote}
+use Rattle.mtl.specs.Settling.{Settled, Lengths, SettleAsks, settle_answer, settle_writes}
 
 -- what a certificate claims is true in every continuation of the rows that it stands on
 abbrev pub Sound : Type 0

@@ -2,7 +2,7 @@
 pub use Rattle.mtl.specs.declared.line.Window.{Window}
 pub use Rattle.mtl.specs.declared.line.Line.{Line}
 pub use Rattle.mtl.specs.declared.line.Line.TheVariants.{Mark as mark, Not as neg, And as and, Or as or, Previous as previous, Next as next, Since as since, Until as until}
-use Rattle.std.specs.Prelude.{◌≡◌, ℕ, ◌<◌, ◌≤◌, Bool, true, false, cond, ◌&&◌, List, length, Some, None, Option, nat_le, nat_lt, slice_index_or}
+use Rattle.std.specs.Prelude.{◌≡◌, ℕ, ◌<◌, Bool, true, false, cond, ◌&&◌, List, length, Some, None, Option, nat_le, nat_lt, slice_index_or}
 
 -- a rule table: its lines, from line 0 on
 abbrev pub Rules : Type 0

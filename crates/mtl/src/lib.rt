@@ -1,4 +1,6 @@
 //! The subject: rows, rule lines, rule tables, rulings, claims and the nodes of certificates.
+#![tactic(auto)]
+
 pub mod draft;
 pub mod kind;
 pub mod laws;

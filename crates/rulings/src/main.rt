@@ -1,4 +1,6 @@
 //! Reads a rules text, an empty line and a log text from standard input, and prints the listing.
+#![tactic(auto)]
+
 use listing::listing::listing;
 use std::io;
 use std::io::Read;

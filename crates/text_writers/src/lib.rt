@@ -1,4 +1,6 @@
 //! Rule tables and logs written as the texts that `texts` reads.
+#![tactic(auto)]
+
 pub mod laws;
 pub mod log;
 mod rule_line;

@@ -1,4 +1,6 @@
 //! The two texts: a rules text is read into a draft, and a log text into a growing log.
+#![tactic(auto)]
+
 mod entry;
 pub mod fault;
 mod forms;

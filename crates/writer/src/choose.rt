@@ -1,6 +1,6 @@
 // The least way to rule a line at a row, by the cells of earlier lines.
 ghost use Rattle.std.specs.Prelude.{◌≡◌, ℕ, ◌<◌, ◌≤◌, length};
-ghost use Rattle.mtl.specs.Claims.{Held as held_at, Broken as broken-at};
+ghost use Rattle.mtl.specs.Claims.{Held as held_at, Broken as broken_at};
 ghost use Rattle.mtl.specs.Forms.{forms};
 ghost use Rattle.mtl.specs.Rows.{stands};
 ghost use Rattle.mtl.specs.Tables.{lines_of};
@@ -99,7 +99,7 @@ pub(crate) fn broken_best(
     row: usize,
 ) -> Best
     requires { (Given (lines_of table.now) rows.now) × (8192 ≤ length sizes.now) }
-    ensures { result ≡ best_by (cell_in sizes.now) (lines_of table.now) rows.now (broken-at line row) }
+    ensures { result ≡ best_by (cell_in sizes.now) (lines_of table.now) rows.now (broken_at line row) }
 {
     if row >= rows.len() {
         return NONE;

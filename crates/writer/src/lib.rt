@@ -1,4 +1,6 @@
 //! Settling: from a rule table and the rows of a log to rulings, least sizes and shortest certificates.
+#![tactic(auto)]
+
 mod best;
 mod cells;
 mod choose;

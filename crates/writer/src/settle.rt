@@ -1,7 +1,7 @@
 // Settle: a line at a row is worked out, and its shortest certificate written.
 ghost use Rattle.std.specs.Prelude.{◌≡◌, ℕ, ◌+◌, ◌<◌, ◌≤◌, length};
 ghost use Rattle.mtl.specs.Buffers.{Fills};
-ghost use Rattle.mtl.specs.Claims.{claim, Held as held_at, Broken as broken-at};
+ghost use Rattle.mtl.specs.Claims.{claim, Held as held_at, Broken as broken_at};
 ghost use Rattle.mtl.specs.Laws.{SettleSays};
 ghost use Rattle.mtl.specs.Settling.{lengths, settle_answer, wrote};
 ghost use Rattle.mtl.specs.Tables.{lines_of};
@@ -23,7 +23,7 @@ use mtl::table::Table;
 // The ruling that has a certificate, and its least size; size 0 if neither has.
 fn least(sizes: &[u16], line: u8, row: usize) -> Settled
     requires { (8192 ≤ length sizes.now) × ((line < 32) × (row < 128)) }
-    ensures { result ≡ least_of (cell_in sizes.now (held_at line row)) (cell_in sizes.now (broken-at line row)) }
+    ensures { result ≡ least_of (cell_in sizes.now (held_at line row)) (cell_in sizes.now (broken_at line row)) }
 {
     let held = held_cell(sizes, line, row);
     if held != 0 {

@@ -1,6 +1,6 @@
 // Writing the shortest certificate of a claim in postfix order, from the filled plan: two writers that call each other at every not.
 ghost use Rattle.std.specs.Prelude.{◌≡◌, ℕ, ◌+◌, ◌≤◌, length};
-ghost use Rattle.mtl.specs.Claims.{Held as held_at, Broken as broken-at};
+ghost use Rattle.mtl.specs.Claims.{Held as held_at, Broken as broken_at};
 ghost use Rattle.mtl.specs.Tables.{lines_of};
 ghost use Rattle.writer.specs.Written.{Wrote, Writable, cert_bytes};
 
@@ -52,9 +52,9 @@ pub(crate) fn write_broken(
     out: &mut [u8],
     at: usize,
 ) -> usize
-    requires ready { Writable (lines_of table.now) rows.now plan.now (broken-at line row) }
-    requires room { at + length (cert_bytes (lines_of table.now) rows.now (broken-at line row)) ≤ length out.old }
-    ensures { Wrote out.old out.new at result (cert_bytes (lines_of table.now) rows.now (broken-at line row)) }
+    requires ready { Writable (lines_of table.now) rows.now plan.now (broken_at line row) }
+    requires room { at + length (cert_bytes (lines_of table.now) rows.now (broken_at line row)) ≤ length out.old }
+    ensures { Wrote out.old out.new at result (cert_bytes (lines_of table.now) rows.now (broken_at line row)) }
 {
     let found = line_at(table, line);
     if let Some(left) = negated(found) {

@@ -7,8 +7,8 @@ use Rattle.fields.proofs.Cutting.{sofar, grows, at_byte, now_dashed, now_inside,
 use Rattle.fields.proofs.token.Lexer.step.Goals as goal
 use Rattle.fields.proofs.token.Lexer.step.Goals.{in-default-via-in-Dashed·+in-default·, in-default-via-in-Fresh·+in-default·, in-default-via-in-Inside·+in-default·, In-default, at·ghost-self-in-default, at·returns-in-default}
 
-pub invariant-of-self : goal.invariant-of-self
-invariant-of-self c =
+pub invariant_of-self : goal.invariant_of-self
+invariant_of-self c =
     let l = c.args.self.now in
     let s = l.text.now in
     let in_s : l.at < length s = c.requires.0 in
@@ -34,12 +34,12 @@ ordinary c = elim c.in-default.branch [
   | in-default-via-in-Inside·+in-default· w ↦ when_inside _ _ (search arith) (λ e. omega arith)
 ]
 
-pub invariant-of-self-in-default : goal.invariant-of-self-in-default
-invariant-of-self-in-default c =
+pub invariant_of-self-in-default : goal.invariant_of-self-in-default
+invariant_of-self-in-default c =
     let l = c.args.self.now in
     let s = l.text.now in
     let in_s : l.at < length s = c.requires.0 in
-    let o = ordinary (goal.at.invariant-of-self-in-default c).In-default in
+    let o = ordinary (goal.at.invariant_of-self-in-default c).In-default in
     let one = past_open l.state o.is_open in
     ((omega arith, omega arith, omega arith), (ap is_word (grows s l.from l.at (omega arith) in_s) ∙ now_inside l.state _ (get_or s l.at 0) l.sofar o.is_open (λ f e. o.minus f (c.requires.1 ∙ e)), tt))
 
