@@ -4,7 +4,7 @@ use Rattle.mtl.specs.declared.row.Row.{Row}
 use Rattle.mtl.specs.declared.ruling.Claim.{Claim}
 use Rattle.mtl.specs.declared.ruling.Settled.{Settled}
 use Rattle.mtl.specs.Lines.{Rules}
-use Rattle.mtl.specs.Settling.{lengths}
+use Rattle.mtl.specs.Settling.{Lengths}
 use Rattle.logs.specs.declared.fault.AddFault.{AddFault}
 use Rattle.logs.specs.Answers.{add_told}
 use Rattle.checker.specs.declared.fault.CheckFault.{CheckFault}
@@ -21,14 +21,13 @@ use Rattle.cases.specs.Runs.{State, Event, Added, Presented, Ruled, Looked, Step
 use Rattle.cases.specs.Law.{Opened, Lawful}
 use Rattle.cases.specs.View.{show_told}
 
--- the event is this call with this answer; the buffers lent are as long as any call asks for: 4,096 claims, twice 8,192 cells, 24,576 bytes
+-- the event is this call with this answer, whatever the length of the buffers lent
 pub data Records : Call → Answer → Event → Type 0 where
   of_add : (x : Row) (a : Result (Unit {0}) AddFault) → Records (Add x) (added a) (Added x (add_told a))
   of_present :
-      (cert : _) (a : Result Claim CheckFault) → Records (Present cert) (presented a) (Presented cert.now 4096 (check_told a))
+      (cert : _) (stack : ℕ) (a : Result Claim CheckFault) → Records (Present cert) (presented a) (Presented cert.now stack (check_told a))
   of_settle :
-      (n i : ℕ) (out : List ℕ) (a : Result Settled SettleFault) →
-      Records (Settle n i) (settled a) (Ruled n i (lengths 8192 8192 24576) (settle_told a) out)
+      (n i : ℕ) (ls : Lengths) (out : List ℕ) (a : Result Settled SettleFault) → Records (Settle n i) (settled a) (Ruled n i ls (settle_told a) out)
   of_show : (n i : ℕ) (a : Result Entry ShowFault) → Records (Show n i) (shown a) (Looked n i (show_told a))
 
 -- call by call and answer by answer

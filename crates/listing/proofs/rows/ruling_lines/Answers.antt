@@ -7,11 +7,11 @@ use Rattle.logs.specs.contracts.mask.MaskLogReadable.TheImpl.{ghosts as MaskRows
 use Rattle.listing.specs.Rulings.{settled_lines, ruling_lines}
 use Rattle.listing.proofs.rows.ruling_lines.Goals as goal
 
-pub returns-in-err-plan : goal.returns-in-err-plan
-returns-in-err-plan c = IfOk-from_err _ _ c.from-residual-in-err-plan.ensures.0
+pub returns-in_err-plan : goal.returns-in_err-plan
+returns-in_err-plan c = IfOk-from_err _ _ c.from_residual-in_err-plan.ensures.0
 
-pub returns-in-err-out : goal.returns-in-err-out
-returns-in-err-out c = IfOk-from_err _ _ c.from-residual-in-err-out.ensures.0
+pub returns-in_err-out : goal.returns-in_err-out
+returns-in_err-out c = IfOk-from_err _ _ c.from_residual-in_err-out.ensures.0
 
 pub returns : goal.returns
 returns c =
@@ -20,9 +20,9 @@ returns c =
     let opened = c.open-case.ensures in
     let count : c.len-lines.result ≡ length T = c.len-lines.ensures in
     let some : eqb (length T) 0 ≡ false = ne_eqb (length T) 0 (λ none. c.if-lines-eq0.false (count ∙ none)) in
-    let sizes = c.deref-mut.ensures.len ∙ c.in-ok-sizes.ensures.len in
-    let plan = c.deref-mut-2.ensures.len ∙ c.in-ok-plan.ensures.len in
-    let out = c.deref-mut-3.ensures.len ∙ c.in-ok-out.ensures.len in
-    let listed : settled_lines (lines_of c.open-case.result.table) (MaskRows.rows c.open-case.result.log) (c.len-lines.result - 1) (lengths (length c.deref-mut.result.now) (length c.deref-mut-2.result.now) (length c.deref-mut-3.result.now)) ≡ ruling_lines T R =
+    let sizes = c.deref_mut.ensures.len ∙ c.in_ok-sizes.ensures.len in
+    let plan = c.deref_mut-2.ensures.len ∙ c.in_ok-plan.ensures.len in
+    let out = c.deref_mut-3.ensures.len ∙ c.in_ok-out.ensures.len in
+    let listed : settled_lines (lines_of c.open-case.result.table) (MaskRows.rows c.open-case.result.log) (c.len-lines.result - 1) (lengths (length c.deref_mut.result.now) (length c.deref_mut-2.result.now) (length c.deref_mut-3.result.now)) ≡ ruling_lines T R =
     (λ i. settled_lines (lines_of (opened.table i)) (MaskRows.rows (opened.log i)) (count i - 1) (lengths (sizes i) (plan i) (out i))) ∙ sym (cond-false _ _ _ some) in
-    subst (λ t. IfOk c.settled-lines.result (λ s. string_bytes s ≡ t)) listed c.settled-lines.ensures
+    subst (λ t. IfOk c.settled_lines.result (λ s. string_bytes s ≡ t)) listed c.settled_lines.ensures

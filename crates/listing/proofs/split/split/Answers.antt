@@ -6,7 +6,7 @@ use Rattle.listing.proofs.split.split.Goals.{then-end-input, else-end-input}
 pub returns : goal.returns
 returns c =
     let s = c.args.input.now in
-    let end = c.rules-length-end.ensures.value in
+    let end = c.rules_length-end.ensures.value in
     record {
       rules = ap (λ n. take n s) end;
       log = take_rest s c.if-end-input.log ∙ elim c.if-end-input.branch [

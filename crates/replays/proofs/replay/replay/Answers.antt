@@ -26,7 +26,7 @@ loop-call-preserved g c =
     let k = c.loop-call.call-index in
     let more = makes_more o s t (take k cs) (vec_items c.loop-call.answers) (get_or cs k no_call) c.make-answer.result c.loop-call.invariant c.make-answer.ensures in
     subst (λ xs. MakesAll o xs (vec_items c.push.new.self) t) (sym (take_more cs k no_call c.loop-call-test.true))
-    (subst (λ xs. MakesAll o (take k cs ++ get_or cs k no_call ∷ []) xs t) (sym c.in-ok-push.ensures.items) more)
+    (subst (λ xs. MakesAll o (take k cs ++ get_or cs k no_call ∷ []) xs t) (sym c.in_ok-push.ensures.items) more)
 
 pub returns : goal.returns
 returns g c =
