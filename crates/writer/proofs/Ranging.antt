@@ -15,7 +15,6 @@ use Rattle.writer.specs.Ways.{Way, Makes, Takes}
 use Rattle.writer.proofs.Keeping.{keep_in}
 use Rattle.writer.proofs.Outside.{past_outside, first_false}
 use Rattle.writer.proofs.Taking.{takes, unbroken}
-use Rattle.writer.proofs.Right.{below}
 
 in_true : (v : Window) (d : ℕ) → v.from ≤ d → up_to v.to d ≡ true → inside v d ≡ true
 in_true v d h u = ap₂ (λ a b. a && b) (le-leb v.from d h) u

@@ -8,6 +8,7 @@ ghost use Rattle.writer.specs.Choice.{cell_in, of_forms, Ready};
 use crate::best::{Best, NONE};
 use crate::cells::{broken_cell, broken_cell_or_none, held_cell};
 use crate::sums::{better, offered, plus};
+use crate::windows::{beyond, inside};
 use mtl::line::Window;
 use mtl::row::Row;
 
@@ -24,7 +25,7 @@ pub(crate) fn previous_held(
     if row == 0 {
         return NONE;
     }
-    let met = window.inside(rows[row].time.saturating_sub(rows[row - 1].time));
+    let met = inside(window, rows[row].time.saturating_sub(rows[row - 1].time));
     offered(met, plus(1, held_cell(sizes, left, row - 1)), 11, 0)
 }
 
@@ -44,7 +45,7 @@ pub(crate) fn previous_broken(
     let apart = rows[row].time.saturating_sub(rows[row - 1].time);
     let before = offered(true, plus(1, broken_cell(sizes, left, row - 1)), 12, 0);
     let near = offered(apart < window.from, 1, 13, 0);
-    let far = offered(window.beyond(apart), 1, 14, 0);
+    let far = offered(beyond(window, apart), 1, 14, 0);
     better(before, better(near, far))
 }
 
@@ -55,7 +56,7 @@ pub(crate) fn next_held(window: Window, left: u8, rows: &[Row], sizes: &[u16], r
     if row + 1 == rows.len() {
         return NONE;
     }
-    let met = window.inside(rows[row + 1].time.saturating_sub(rows[row].time));
+    let met = inside(window, rows[row + 1].time.saturating_sub(rows[row].time));
     offered(met, plus(1, held_cell(sizes, left, row + 1)), 16, 0)
 }
 
@@ -74,6 +75,6 @@ pub(crate) fn next_broken(window: Window, left: u8, rows: &[Row], sizes: &[u16],
     }
     let apart = rows[row + 1].time.saturating_sub(rows[row].time);
     let near = offered(apart < window.from, 1, 18, 0);
-    let far = offered(window.beyond(apart), 1, 19, 0);
+    let far = offered(beyond(window, apart), 1, 19, 0);
     better(after, better(near, far))
 }

@@ -10,7 +10,7 @@ ghost use Rattle.writer.specs.Choice.{cell_in, of_forms, Ready};
 use crate::best::{Best, NONE};
 use crate::cells::{broken_cell, held_cell};
 use crate::sums::{better, offered, plus, plus_if};
-use crate::windows::end_within;
+use crate::windows::{beyond, end_within};
 use mtl::line::Window;
 use mtl::row::Row;
 
@@ -47,7 +47,7 @@ fn has_closed(window: Window, rows: &[Row], row: usize) -> bool
     ensures { result ≡ past window.to (time_at rows.now (length rows.now - 1) - time_at rows.now row) }
 {
     let after = rows[rows.len() - 1].time.saturating_sub(rows[row].time);
-    window.beyond(after)
+    beyond(window, after)
 }
 
 pub(crate) fn until_broken(

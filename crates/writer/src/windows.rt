@@ -1,10 +1,34 @@
-// Where the rows inside a window begin and end.
+// Differences of times against a window, and where the rows inside it begin and end.
 ghost use Rattle.std.specs.Prelude.{◌≡◌, ℕ, ◌+◌, ◌-◌, ◌<◌, ◌≤◌, true, length};
 ghost use Rattle.mtl.specs.Rows.{NeverFalls, time_at};
-ghost use Rattle.mtl.specs.Windows.{up_to, past};
+ghost use Rattle.mtl.specs.Windows.{inside as within, up_to, past};
 
 use mtl::line::Window;
-use mtl::row::Row;
+use mtl::row::{Row, Time};
+
+pub(crate) fn inside(window: Window, apart: Time) -> bool
+    ensures { result ≡ within window apart }
+{
+    window.from <= apart && up_to(window, apart)
+}
+
+pub(crate) fn up_to(window: Window, apart: Time) -> bool
+    ensures { result ≡ up_to window.to apart }
+{
+    match window.to {
+        Some(to) => apart <= to,
+        None => true,
+    }
+}
+
+pub(crate) fn beyond(window: Window, apart: Time) -> bool
+    ensures { result ≡ past window.to apart }
+{
+    match window.to {
+        Some(to) => to < apart,
+        None => false,
+    }
+}
 
 // The first row whose time is at least the bound, or the number of rows.
 pub(crate) fn first_from(rows: &[Row], bound: u64) -> usize

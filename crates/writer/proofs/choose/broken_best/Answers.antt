@@ -11,8 +11,8 @@ pub returns-then-row-rows : goal.returns-then-row-rows
 returns-then-row-rows c =
     best_out (cell_in c.args.sizes.now) (lines_of c.args.table.now) c.args.rows.now c.args.line c.args.row broken (λ _. c.if-row-rows.true)
 
-pub broken-at-requires : goal.broken-at-requires
-broken-at-requires c = fit c.args.sizes.now c.args.line c.args.row c.in-Some.found c.requires.0 (sym c.line.ensures ∙ c.in-Some.is) c.requires.1 c.if-row-rows.false
+pub broken_at-requires : goal.broken_at-requires
+broken_at-requires c = fit c.args.sizes.now c.args.line c.args.row c.in-Some.found c.requires.0 (sym c.line.ensures ∙ c.in-Some.is) c.requires.1 c.if-row-rows.false
 
 pub returns-in-Some : goal.returns-in-Some
 returns-in-Some c =

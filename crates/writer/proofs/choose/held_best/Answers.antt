@@ -11,13 +11,13 @@ pub returns-then-row-rows : goal.returns-then-row-rows
 returns-then-row-rows c =
     best_out (cell_in c.args.sizes.now) (lines_of c.args.table.now) c.args.rows.now c.args.line c.args.row held (λ _. c.if-row-rows.true)
 
-pub held-at-requires : goal.held-at-requires
-held-at-requires c = fit c.args.sizes.now c.args.line c.args.row c.in-Some.found c.requires.0 (sym c.line.ensures ∙ c.in-Some.is) c.requires.1 c.if-row-rows.false
+pub held_at-requires : goal.held_at-requires
+held_at-requires c = fit c.args.sizes.now c.args.line c.args.row c.in-Some.found c.requires.0 (sym c.line.ensures ∙ c.in-Some.is) c.requires.1 c.if-row-rows.false
 
 pub returns-in-Some : goal.returns-in-Some
 returns-in-Some c =
     let p = line_some (lines_of c.args.table.now) c.args.line c.in-Some.found (sym c.line.ensures ∙ c.in-Some.is) in
-    c.held-at.ensures
+    c.held_at.ensures
     ∙ ap (λ l. of_forms (cell_in c.args.sizes.now) held (forms c.args.rows.now c.args.row l)) (sym p.1)
     ∙ sym (best_in (cell_in c.args.sizes.now) (lines_of c.args.table.now) c.args.rows.now c.args.line c.args.row held p.0 c.if-row-rows.false)
 

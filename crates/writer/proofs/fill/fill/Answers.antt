@@ -15,8 +15,8 @@ loop-row-init c =
 
 pub loop-row-preserved : goal.loop-row-preserved
 loop-row-preserved c =
-    let h = found_held (lines_of c.args.table.now) c.requires.given.ordered c.args.rows.now c.requires.given.few_rows c.loop-line.line c.loop-row.row c.loop-row.sizes c.loop-line.sizes _ (omega arith) c.loop-row.invariant.0 c.held-best-held.ensures in
-    let b = found_broken (lines_of c.args.table.now) c.requires.given.ordered c.args.rows.now c.requires.given.few_rows c.loop-line.line c.loop-row.row c.loop-row.sizes c.loop-line.sizes _ (omega arith) c.loop-row.invariant.0 c.broken-best-broken.ensures in (
+    let h = found_held (lines_of c.args.table.now) c.requires.given.ordered c.args.rows.now c.requires.given.few_rows c.loop-line.line c.loop-row.row c.loop-row.sizes c.loop-line.sizes _ (omega arith) c.loop-row.invariant.0 c.held_best-held.ensures in
+    let b = found_broken (lines_of c.args.table.now) c.requires.given.ordered c.args.rows.now c.requires.given.few_rows c.loop-line.line c.loop-row.row c.loop-row.sizes c.loop-line.sizes _ (omega arith) c.loop-row.invariant.0 c.broken_best-broken.ensures in (
       c.put.ensures ∙ filled_two (size_at (lines_of c.args.table.now) c.args.rows.now) (256 * c.loop-line.line + 2 * c.loop-row.row) _ _ _ c.loop-row.sizes c.loop-line.sizes c.loop-row.invariant.0 (omega arith) (omega arith) h.0 b.0,
       c.put-in-loop-row.ensures ∙ filled_two (code_at (lines_of c.args.table.now) c.args.rows.now) (256 * c.loop-line.line + 2 * c.loop-row.row) _ _ _ c.loop-row.plan c.loop-line.plan c.loop-row.invariant.1 (omega arith) (omega arith) h.1 b.1,
     )

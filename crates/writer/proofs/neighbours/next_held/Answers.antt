@@ -11,5 +11,5 @@ returns-then-row-rows c = next_held_last (cell_in c.args.sizes.now) c.args.rows.
 pub returns : goal.returns
 returns c =
     c.offered.ensures ∙
-    ap₂ (λ b s. offer b s (256 * 16 + 0)) (c.inside-met.ensures ∙ ap (inside c.args.window) c.saturating-sub.ensures) (c.plus.ensures ∙ ap (add_cell 1) c.held-cell.ensures) ∙
+    ap₂ (λ b s. offer b s (256 * 16 + 0)) (c.inside-met.ensures ∙ ap (inside c.args.window) c.saturating_sub.ensures) (c.plus.ensures ∙ ap (add_cell 1) c.held_cell.ensures) ∙
     next_held (cell_in c.args.sizes.now) c.args.rows.now c.args.row c.args.window c.args.left (omega (arith, c.requires.row_in))

@@ -36,11 +36,11 @@ returns-then-min-lt8192 g c =
     let f = left_alone T R c.args.line c.args.row 23 c.args.sizes.now c.args.plan.now c.args.out.now refl in
     record { answer = a; buffers = f; says = promised T c.args.table.now.formed R (g.L.Readable.laws.rises c.args.log.now) c.args.line c.args.row ls _ _ _ _ _ _ _ a f }
 
-pub settle-rows-requires : goal.settle-rows-requires
-settle-rows-requires g c =
+pub settle_rows-requires : goal.settle_rows-requires
+settle_rows-requires g c =
     let T = lines_of c.args.table.now in
     let R = g.L.Readable.rows c.args.log.now in
-    let same : take c.len-count.result c.read-rows.new.rows ≡ R = ap (λ n. take n c.read-rows.new.rows) c.len-count.ensures ∙ c.read-rows.ensures in
+    let same : take c.len-count.result c.read_rows.new.rows ≡ R = ap (λ n. take n c.read_rows.new.rows) c.len-count.ensures ∙ c.read_rows.ensures in
     record {
       given = subst (Given T) (sym same) (given_of c.args.table.now R (omega (arith, g.L.Readable.laws.small, g.L.Readable.laws.within c.args.log.now)) (g.L.Readable.laws.rises c.args.log.now));
       there = ((omega (arith, c.if-line-len.false, c.len.ensures)), omega (arith, ap length same, c.if-row-count.false, c.len-count.ensures));
@@ -52,7 +52,7 @@ returns g c =
     let T = lines_of c.args.table.now in
     let R = g.L.Readable.rows c.args.log.now in
     let ls = lengths (length c.args.sizes.now) (length c.args.plan.now) (length c.args.out.now) in
-    let same : take c.len-count.result c.read-rows.new.rows ≡ R = ap (λ n. take n c.read-rows.new.rows) c.len-count.ensures ∙ c.read-rows.ensures in
-    let a = subst (λ X. told c.settle-rows.result ≡ settle_answer T X c.args.line c.args.row ls) same c.settle-rows.ensures.answer in
-    let f = subst (λ X. Fills T X c.args.line c.args.row (told c.settle-rows.result) c.args.sizes.now c.settle-rows.new.sizes c.args.plan.now c.settle-rows.new.plan c.args.out.now c.settle-rows.new.out) same c.settle-rows.ensures.buffers in
+    let same : take c.len-count.result c.read_rows.new.rows ≡ R = ap (λ n. take n c.read_rows.new.rows) c.len-count.ensures ∙ c.read_rows.ensures in
+    let a = subst (λ X. told c.settle_rows.result ≡ settle_answer T X c.args.line c.args.row ls) same c.settle_rows.ensures.answer in
+    let f = subst (λ X. Fills T X c.args.line c.args.row (told c.settle_rows.result) c.args.sizes.now c.settle_rows.new.sizes c.args.plan.now c.settle_rows.new.plan c.args.out.now c.settle_rows.new.out) same c.settle_rows.ensures.buffers in
     record { answer = a; buffers = f; says = promised T c.args.table.now.formed R (g.L.Readable.laws.rises c.args.log.now) c.args.line c.args.row ls _ _ _ _ _ _ _ a f }

@@ -24,11 +24,11 @@ loop-j-init c =
 pub loop-j-preserved : goal.loop-j-preserved
 loop-j-preserved c =
     let late = sum_down (cell_in c.args.sizes.now) broken c.args.right (far_before c.args.rows.now c.args.row c.args.window) (c.loop-j.j - 1) c.loop-j.j (suc c.args.row) c.loop-j.late (omega arith) (omega arith) c.loop-j.invariant.1 in
-    let way = way21 (cell_in c.args.sizes.now) c.args.rows.now c.args.row c.args.window c.args.left c.args.right (c.loop-j.j - 1) c.plus-if-late.result (omega arith) (omega arith) (omega arith) (cc) in
-    let met = c.first-within-start.ensures.after (c.loop-j.j - 1 - 1) (omega arith) (omega arith) in
+    let way = way21 (cell_in c.args.sizes.now) c.args.rows.now c.args.row c.args.window c.args.left c.args.right (c.loop-j.j - 1) c.plus_if-late.result (omega arith) (omega arith) (omega arith) (cc) in
+    let met = c.first_within-start.ensures.after (c.loop-j.j - 1 - 1) (omega arith) (omega arith) in
     let j = c.loop-j.j - 1 in
-    let size : c.plus.result ≡ add_cell c.plus-if-late.result (cell_in c.args.sizes.now (Broken c.args.left j)) = cc in
-    let offers = c.offered-in-loop-j.ensures ∙ ap (λ n. offer true n (256 * 21 + j)) size ∙ ap (λ b. offer b (add_cell c.plus-if-late.result (cell_in c.args.sizes.now (Broken c.args.left j))) (256 * 21 + j)) (sym met) ∙ way in
+    let size : c.plus.result ≡ add_cell c.plus_if-late.result (cell_in c.args.sizes.now (Broken c.args.left j)) = cc in
+    let offers = c.offered-in-loop-j.ensures ∙ ap (λ n. offer true n (256 * 21 + j)) size ∙ ap (λ b. offer b (add_cell c.plus_if-late.result (cell_in c.args.sizes.now (Broken c.args.left j))) (256 * 21 + j)) (sym met) ∙ way in
     let best = down (cell_in c.args.sizes.now) (rule21 c.args.rows.now c.args.row c.args.window c.args.left c.args.right) (c.loop-j.j - 1) c.loop-j.j (suc c.args.row) c.loop-j.best c.offered-in-loop-j.result (omega arith) (omega arith) c.loop-j.invariant.0 offers in
     (cc, cc, omega arith)
 
@@ -37,22 +37,22 @@ returns-then-longest-window c = c.offered.ensures ∙ short_since (cell_in c.arg
 
 pub returns : goal.returns
 returns c =
-    let e : c.loop-j.j ≡ c.first-within-start.result + 1 = omega arith in
+    let e : c.loop-j.j ≡ c.first_within-start.result + 1 = omega arith in
     let f : suc c.args.row - 1 ≡ c.args.row = omega arith in
     c.better.ensures ∙
     ap₂ merge (c.loop-j.invariant.0 ∙ ap (λ x. of_ways (cell_in c.args.sizes.now) (rule21 c.args.rows.now c.args.row c.args.window c.args.left c.args.right) (run x (suc c.args.row - x))) e ∙
-    rest_before (cell_in c.args.sizes.now) (rule21 c.args.rows.now c.args.row c.args.window c.args.left c.args.right) c.first-within-start.result 1 (c.first-within-start.result + 1) (suc c.args.row) (omega arith) (omega arith)
-    (λ j lo hi. second_false (leb 1 j && leb j c.args.row) _ (first_false (up_to c.args.window.to (time_at c.args.rows.now c.args.row - time_at c.args.rows.now (j - 1))) _ (past_not c.args.window.to _ (c.first-within-start.ensures.before (j - 1) (omega arith))))) ∙
+    rest_before (cell_in c.args.sizes.now) (rule21 c.args.rows.now c.args.row c.args.window c.args.left c.args.right) c.first_within-start.result 1 (c.first_within-start.result + 1) (suc c.args.row) (omega arith) (omega arith)
+    (λ j lo hi. second_false (leb 1 j && leb j c.args.row) _ (first_false (up_to c.args.window.to (time_at c.args.rows.now c.args.row - time_at c.args.rows.now (j - 1))) _ (past_not c.args.window.to _ (c.first_within-start.ensures.before (j - 1) (omega arith))))) ∙
     ap (λ x. of_ways (cell_in c.args.sizes.now) (rule21 c.args.rows.now c.args.row c.args.window c.args.left c.args.right) (run 1 x)) f)
     (c.offered-2.ensures ∙ ap (λ s. offer true s (256 * 22 + 0))
-    (c.plus-if-whole.ensures ∙ ap₂ (λ b x. add_if b c.loop-j.late x) (ap (leb c.args.window.from) c.saturating-sub.ensures) c.broken-cell-2.ensures ∙
-    sum_down _ broken c.args.right (far_before c.args.rows.now c.args.row c.args.window) c.first-within-start.result c.loop-j.j (suc c.args.row) c.loop-j.late (omega arith) (omega arith) c.loop-j.invariant.1 ∙
+    (c.plus_if-whole.ensures ∙ ap₂ (λ b x. add_if b c.loop-j.late x) (ap (leb c.args.window.from) c.saturating_sub.ensures) c.broken_cell-2.ensures ∙
+    sum_down _ broken c.args.right (far_before c.args.rows.now c.args.row c.args.window) c.first_within-start.result c.loop-j.j (suc c.args.row) c.loop-j.late (omega arith) (omega arith) c.loop-j.invariant.1 ∙
     ap (λ xs. sum_cells (cell_in c.args.sizes.now) 1 (each broken c.args.right xs))
-    (keep_same (far_before c.args.rows.now c.args.row c.args.window) (in_before c.args.rows.now c.args.row c.args.window) c.first-within-start.result (suc c.args.row - c.first-within-start.result)
-    (λ k lo hi. within c.args.window _ (c.first-within-start.ensures.after k lo (omega arith)))) ∙
+    (keep_same (far_before c.args.rows.now c.args.row c.args.window) (in_before c.args.rows.now c.args.row c.args.window) c.first_within-start.result (suc c.args.row - c.first_within-start.result)
+    (λ k lo hi. within c.args.window _ (c.first_within-start.ensures.after k lo (omega arith)))) ∙
     ap (λ xs. sum_cells (cell_in c.args.sizes.now) 1 (each broken c.args.right xs))
-    (keep_before (in_before c.args.rows.now c.args.row c.args.window) c.first-within-start.result 0 c.first-within-start.result (suc c.args.row) (omega arith) (omega arith)
-    (λ j hi. past_outside c.args.window _ (c.first-within-start.ensures.before j hi))))) ∙
+    (keep_before (in_before c.args.rows.now c.args.row c.args.window) c.first_within-start.result 0 c.first_within-start.result (suc c.args.row) (omega arith) (omega arith)
+    (λ j hi. past_outside c.args.window _ (c.first_within-start.ensures.before j hi))))) ∙
     broken_since (cell_in c.args.sizes.now) c.args.rows.now c.args.row c.args.window c.args.left c.args.right (omega arith)
 
 pub returns-then-late-eq0 : goal.returns-then-late-eq0
@@ -66,7 +66,7 @@ returns-then-late-eq0 c =
     let y : sum_cells (cell_in c.args.sizes.now) 1 (each broken c.args.right (keep (in_before c.args.rows.now c.args.row c.args.window) (run m (end - m)))) ≡ 0 =
     ap (λ xs. sum_cells (cell_in c.args.sizes.now) 1 (each broken c.args.right xs))
     (sym (keep_same (far_before c.args.rows.now c.args.row c.args.window) (in_before c.args.rows.now c.args.row c.args.window) m (end - m)
-    (λ k lo hi. within c.args.window _ (c.first-within-start.ensures.after k (omega arith) (omega arith))))) ∙ z in
+    (λ k lo hi. within c.args.window _ (c.first_within-start.ensures.after k (omega arith) (omega arith))))) ∙ z in
     let rule22 = kept_none_before (cell_in c.args.sizes.now) broken c.args.right (in_before c.args.rows.now c.args.row c.args.window) m 0 m end (omega arith) (omega arith) y in
     c.loop-j.invariant.0 ∙
     idle_before (cell_in c.args.sizes.now) (rule21 c.args.rows.now c.args.row c.args.window c.args.left c.args.right) (c.loop-j.j - 1) 1 c.loop-j.j end (omega arith) (omega arith)

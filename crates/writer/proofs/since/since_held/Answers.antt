@@ -23,18 +23,18 @@ loop-j-init c =
 pub loop-j-preserved : goal.loop-j-preserved
 loop-j-preserved c =
     let way = way20 (cell_in c.args.sizes.now) c.args.rows.now c.args.row c.args.window c.args.left c.args.right (c.loop-j.j - 1) c.loop-j.j c.loop-j.sum (omega arith) (omega arith) c.loop-j.invariant.1 in
-    let met = within c.args.window (time_at c.args.rows.now c.args.row - time_at c.args.rows.now (c.loop-j.j - 1)) (c.first-within-start.ensures.after (c.loop-j.j - 1) (omega arith) (omega arith)) in
+    let met = within c.args.window (time_at c.args.rows.now c.args.row - time_at c.args.rows.now (c.loop-j.j - 1)) (c.first_within-start.ensures.after (c.loop-j.j - 1) (omega arith) (omega arith)) in
     let best = down (cell_in c.args.sizes.now) (rule20 c.args.rows.now c.args.row c.args.window c.args.left c.args.right) (c.loop-j.j - 1) c.loop-j.j (suc c.args.row) c.loop-j.best c.offered.result (omega arith) (omega arith) c.loop-j.invariant.0 (cc) in
     let sum = all_down (cell_in c.args.sizes.now) held c.args.left (c.loop-j.j - 1) c.loop-j.j (suc c.args.row) c.loop-j.sum (omega arith) (omega arith) c.loop-j.invariant.1 in
     (cc, cc, omega arith)
 
 pub returns-after-loop-j : goal.returns-after-loop-j
 returns-after-loop-j c =
-    let e : c.loop-j.j ≡ c.first-within-start.result = omega arith in
+    let e : c.loop-j.j ≡ c.first_within-start.result = omega arith in
     let f : suc c.args.row - 0 ≡ suc c.args.row = omega arith in
     c.loop-j.invariant.0 ∙ ap (λ x. of_ways (cell_in c.args.sizes.now) (rule20 c.args.rows.now c.args.row c.args.window c.args.left c.args.right) (run x (suc c.args.row - x))) e ∙
-    rest_before (cell_in c.args.sizes.now) (rule20 c.args.rows.now c.args.row c.args.window c.args.left c.args.right) c.first-within-start.result 0 c.first-within-start.result (suc c.args.row) (omega arith) (omega arith)
-    (λ j lo hi. second_false (leb j c.args.row) _ (past_outside c.args.window _ (c.first-within-start.ensures.before j hi))) ∙
+    rest_before (cell_in c.args.sizes.now) (rule20 c.args.rows.now c.args.row c.args.window c.args.left c.args.right) c.first_within-start.result 0 c.first_within-start.result (suc c.args.row) (omega arith) (omega arith)
+    (λ j lo hi. second_false (leb j c.args.row) _ (past_outside c.args.window _ (c.first_within-start.ensures.before j hi))) ∙
     ap (λ x. of_ways (cell_in c.args.sizes.now) (rule20 c.args.rows.now c.args.row c.args.window c.args.left c.args.right) (run 0 x)) f ∙ held_since (cell_in c.args.sizes.now) c.args.rows.now c.args.row c.args.window c.args.left c.args.right
 
 pub returns-then-sum-eq0 : goal.returns-then-sum-eq0

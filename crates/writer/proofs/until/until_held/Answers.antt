@@ -20,17 +20,17 @@ loop-j-init c =
 pub loop-j-preserved : goal.loop-j-preserved
 loop-j-preserved c =
     let way = way24 (cell_in c.args.sizes.now) c.args.rows.now c.args.row c.args.window c.args.left c.args.right c.loop-j.j c.loop-j.sum (omega arith) (omega arith) c.loop-j.invariant.1 in
-    let met = within c.args.window (time_at c.args.rows.now c.loop-j.j - time_at c.args.rows.now c.args.row) (c.end-within-end.ensures.before c.loop-j.j (omega arith)) in
+    let met = within c.args.window (time_at c.args.rows.now c.loop-j.j - time_at c.args.rows.now c.args.row) (c.end_within-end.ensures.before c.loop-j.j (omega arith)) in
     let best = up (cell_in c.args.sizes.now) (rule24 c.args.rows.now c.args.row c.args.window c.args.left c.args.right) c.args.row c.loop-j.j (c.loop-j.j + 1) c.loop-j.best c.offered-way.result (omega arith) (omega arith) c.loop-j.invariant.0 (cc) in
     let sum = all_up (cell_in c.args.sizes.now) held c.args.left c.args.row c.loop-j.j (c.loop-j.j + 1) c.loop-j.sum (omega arith) (omega arith) c.loop-j.invariant.1 in
     (cc, cc)
 
 pub returns-after-loop-j : goal.returns-after-loop-j
 returns-after-loop-j c =
-    let e : c.loop-j.j ≡ c.end-within-end.result = omega (arith, c.loop-j.auto.j-end c.end-within-end.ensures.low) in
+    let e : c.loop-j.j ≡ c.end_within-end.result = omega (arith, c.loop-j.auto.j-end c.end_within-end.ensures.low) in
     c.loop-j.invariant.0 ∙ ap (λ x. of_ways (cell_in c.args.sizes.now) (rule24 c.args.rows.now c.args.row c.args.window c.args.left c.args.right) (run c.args.row (x - c.args.row))) e ∙
-    rest_after (cell_in c.args.sizes.now) (rule24 c.args.rows.now c.args.row c.args.window c.args.left c.args.right) c.args.row (length c.args.rows.now - c.end-within-end.result) c.end-within-end.result (length c.args.rows.now) (omega arith) c.end-within-end.ensures.low
-    (λ j lo hi. second_false (leb c.args.row j && ltb j (length c.args.rows.now)) _ (past_outside c.args.window _ (c.end-within-end.ensures.after j lo hi))) ∙
+    rest_after (cell_in c.args.sizes.now) (rule24 c.args.rows.now c.args.row c.args.window c.args.left c.args.right) c.args.row (length c.args.rows.now - c.end_within-end.result) c.end_within-end.result (length c.args.rows.now) (omega arith) c.end_within-end.ensures.low
+    (λ j lo hi. second_false (leb c.args.row j && ltb j (length c.args.rows.now)) _ (past_outside c.args.window _ (c.end_within-end.ensures.after j lo hi))) ∙
     held_until (cell_in c.args.sizes.now) c.args.rows.now c.args.row c.args.window c.args.left c.args.right
 
 pub returns-then-sum-eq0 : goal.returns-then-sum-eq0

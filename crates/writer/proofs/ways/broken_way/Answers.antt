@@ -33,7 +33,7 @@ pub returns-then-rule-eq12 : goal.returns-then-rule-eq12
 returns-then-rule-eq12 c =
     record {
       near = c.one-then-rule-eq12.ensures.near;
-      kids = λ _. rw c.in-Previous.is (previous_one c.one-then-rule-eq12.result c.args.code _ _ c.unpacked-rule.ensures.0 c.unpacked-rule.ensures.1 c.args.rows.now c.args.row c.in-Previous.field-0 c.in-Previous.left _ c.one-then-rule-eq12.ensures c.saturating-sub.ensures c.if-rule-eq12.true);
+      kids = λ _. rw c.in-Previous.is (previous_one c.one-then-rule-eq12.result c.args.code _ _ c.unpacked-rule.ensures.0 c.unpacked-rule.ensures.1 c.args.rows.now c.args.row c.in-Previous.field-0 c.in-Previous.left _ c.one-then-rule-eq12.ensures c.saturating_sub.ensures c.if-rule-eq12.true);
     }
 
 pub returns-else-rule-eq12 : goal.returns-else-rule-eq12

@@ -33,7 +33,7 @@ pub returns-in-Previous : goal.returns-in-Previous
 returns-in-Previous c =
     record {
       near = c.one-in-Previous.ensures.near;
-      kids = λ R _. rw c.in-Previous.is (previous_held c.one-in-Previous.result c.args.code _ _ c.unpacked-rule.ensures.0 c.unpacked-rule.ensures.1 R c.args.row c.in-Previous.field-0 c.in-Previous.left _ c.one-in-Previous.ensures c.saturating-sub.ensures);
+      kids = λ R _. rw c.in-Previous.is (previous_held c.one-in-Previous.result c.args.code _ _ c.unpacked-rule.ensures.0 c.unpacked-rule.ensures.1 R c.args.row c.in-Previous.field-0 c.in-Previous.left _ c.one-in-Previous.ensures c.saturating_sub.ensures);
     }
 
 pub returns-in-Next : goal.returns-in-Next
@@ -46,13 +46,13 @@ returns-in-Next c =
 pub returns-in-Since : goal.returns-in-Since
 returns-in-Since c =
     record {
-      near = c.one-then.ensures.near;
-      kids = λ R _. rw c.in-Since.is (since_held c.one-then.result c.args.code _ _ c.unpacked-rule.ensures.0 c.unpacked-rule.ensures.1 R c.args.row c.in-Since.field-0 c.in-Since.left c.in-Since.right c.one-then.ensures);
+      near = c.one_then.ensures.near;
+      kids = λ R _. rw c.in-Since.is (since_held c.one_then.result c.args.code _ _ c.unpacked-rule.ensures.0 c.unpacked-rule.ensures.1 R c.args.row c.in-Since.field-0 c.in-Since.left c.in-Since.right c.one_then.ensures);
     }
 
 pub returns-in-Until : goal.returns-in-Until
 returns-in-Until c =
     record {
-      near = c.one-then-in-Until.ensures.near;
-      kids = λ R _. rw c.in-Until.is (until_held c.one-then-in-Until.result c.args.code _ _ c.unpacked-rule.ensures.0 c.unpacked-rule.ensures.1 R c.args.row c.in-Until.field-0 c.in-Until.left c.in-Until.right c.one-then-in-Until.ensures);
+      near = c.one_then-in-Until.ensures.near;
+      kids = λ R _. rw c.in-Until.is (until_held c.one_then-in-Until.result c.args.code _ _ c.unpacked-rule.ensures.0 c.unpacked-rule.ensures.1 R c.args.row c.in-Until.field-0 c.in-Until.left c.in-Until.right c.one_then-in-Until.ensures);
     }
