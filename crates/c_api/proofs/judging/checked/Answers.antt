@@ -10,5 +10,5 @@ returns-in-Err c =
     let f = c.in-Err.fault in
     record {
       answer = search rules;
-      says = (check_counts f, read_as c.args.rules.now c.args.log.now _ _ c.in-ok-table.ensures c.in-ok-log.ensures (λ T R. CheckSays T R c.args.certificate.now 4096 (refused (fault_told f).0 (fault_told f).1)) c.in-Err.ensures.says);
+      says = (check_counts f, read_as c.args.rules.now c.args.log.now _ _ c.in_ok-table.ensures c.in_ok-log.ensures (λ T R. CheckSays T R c.args.certificate.now 4096 (refused (fault_told f).0 (fault_told f).1)) c.in-Err.ensures.says);
     }

@@ -7,8 +7,8 @@ use Rattle.c_api.proofs.judging.settled.Goals as goal
 
 pub returns-in-Ok : goal.returns-in-Ok
 returns-in-Ok c =
-    let t = c.in-ok-table.ensures in
-    let l = c.in-ok-log.ensures in
+    let t = c.in_ok-table.ensures in
+    let l = c.in_ok-log.ensures in
     let s = c.in-Ok.ensures in
     record {
       answer = search rules;
@@ -18,8 +18,8 @@ returns-in-Ok c =
 
 pub returns-in-Err : goal.returns-in-Err
 returns-in-Err c =
-    let t = c.in-ok-table.ensures in
-    let l = c.in-ok-log.ensures in
+    let t = c.in_ok-table.ensures in
+    let l = c.in_ok-log.ensures in
     let s = c.in-Err.ensures in
     let q = settle_number c.in-Err.fault in
     record {
