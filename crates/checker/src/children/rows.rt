@@ -3,6 +3,7 @@ ghost use Rattle.std.specs.Prelude.{◌≡◌};
 ghost use Rattle.checker.specs.Children.{all_at, rows_are, chosen};
 
 use crate::reading::Side;
+use crate::reading::lines::inside;
 use crate::reading::times::apart;
 use logs::traits::Readable;
 use mtl::line::Window;
@@ -33,7 +34,7 @@ pub(crate) fn rows_are<L: Readable>(
 {
     let mut left = children;
     for k in first..end {
-        if window.inside(apart(log, side, row, k)) {
+        if inside(window, apart(log, side, row, k)) {
             match left {
                 [child, rest @ ..] if child.row as usize == k => left = rest,
                 _ => return false,

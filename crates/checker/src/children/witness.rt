@@ -4,6 +4,7 @@ ghost use Rattle.checker.specs.Children.{led};
 ghost use Rattle.checker.specs.Placed.{since_held, since_broken, until_held, until_broken, led_by, placed};
 
 use crate::children::rows::{all_at, rows_are};
+use crate::reading::lines::{at_least, beyond, inside, up_to};
 use crate::reading::times::{apart, stands_at};
 use crate::reading::{Parts, Side};
 use logs::traits::Readable;
@@ -16,16 +17,9 @@ fn since_held<L: Readable>(log: &L, window: Window, row: u16, j: u16, others: &[
 {
     let i = row as usize;
     let j = j as usize;
-    rows_are(
-        others,
-        log,
-        Side::Before,
-        Window::at_least(0),
-        i,
-        j + 1,
-        i + 1,
-    ) && j <= i
-        && window.inside(apart(log, Side::Before, i, j))
+    rows_are(others, log, Side::Before, at_least(0), i, j + 1, i + 1)
+        && j <= i
+        && inside(window, apart(log, Side::Before, i, j))
 }
 
 // Rule 21: left broken at j, right broken at the window's rows from j on; row j - 1 is not past the window's end.
@@ -34,11 +28,11 @@ fn since_broken<L: Readable>(log: &L, window: Window, row: u16, j: u16, others: 
 {
     let i = row as usize;
     let j = j as usize;
-    let from = Window::at_least(window.from);
+    let from = at_least(window.from);
     rows_are(others, log, Side::Before, from, i, j, i + 1)
         && 1 <= j
         && j <= i
-        && window.up_to(apart(log, Side::Before, i, j - 1))
+        && up_to(window, apart(log, Side::Before, i, j - 1))
         && window.from <= apart(log, Side::Before, i, 0)
 }
 
@@ -48,10 +42,10 @@ fn until_held<L: Readable>(log: &L, window: Window, row: u16, j: u16, others: &[
 {
     let i = row as usize;
     let j = j as usize;
-    rows_are(others, log, Side::After, Window::at_least(0), i, i, j)
+    rows_are(others, log, Side::After, at_least(0), i, i, j)
         && i <= j
         && j < log.len()
-        && window.inside(apart(log, Side::After, i, j))
+        && inside(window, apart(log, Side::After, i, j))
 }
 
 // Rule 25: left broken at j, right broken at the window's rows up to j; row j is not past the window's end.
@@ -60,17 +54,10 @@ fn until_broken<L: Readable>(log: &L, window: Window, row: u16, j: u16, others: 
 {
     let i = row as usize;
     let j = j as usize;
-    rows_are(
-        others,
-        log,
-        Side::After,
-        Window::at_least(window.from),
-        i,
-        i,
-        j + 1,
-    ) && i <= j
+    rows_are(others, log, Side::After, at_least(window.from), i, i, j + 1)
+        && i <= j
         && j < log.len()
-        && window.up_to(apart(log, Side::After, i, j))
+        && up_to(window, apart(log, Side::After, i, j))
 }
 
 // The rules that leave a choice of j: the first child stands there.
@@ -125,7 +112,7 @@ pub(crate) fn rows_fit<L: Readable>(
             && window.from <= apart(log, Side::Before, i, 0),
         23 => apart(log, Side::Before, i, 0) < window.from,
         26 => rows_are(children, log, Side::After, window, i, i, log.len())
-            && window.beyond(apart(log, Side::After, i, log.len() - 1)),
+            && beyond(window, apart(log, Side::After, i, log.len() - 1)),
         _ => true,
     }
 }

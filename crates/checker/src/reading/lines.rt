@@ -1,5 +1,7 @@
-// A line's parts side by side.
+// A line's parts, and differences of times against its window.
 ghost use Rattle.std.specs.Prelude.{◌≡◌};
+ghost use Rattle.mtl.specs.Windows.{up_to, past, wide};
+ghost use Rattle.mtl.specs.Windows.{inside as is_inside};
 ghost use Rattle.checker.specs.Parts.{parts_in, parts_of};
 
 use crate::reading::Parts;
@@ -8,7 +10,7 @@ use mtl::line::{Kind, Line, Window};
 pub(crate) fn parts_of(line: Line) -> Parts
     ensures { result ≡ parts_of line }
 {
-    let any = Window::at_least(0);
+    let any = at_least(0);
     match line {
         Line::Mark(mark) => parts(Kind::Mark, any, mark, 0),
         Line::Not(left) => parts(Kind::Not, any, left, 0),
@@ -30,4 +32,35 @@ fn parts(kind: Kind, window: Window, left: u8, right: u8) -> Parts
         left,
         right,
     }
+}
+
+// The window without an end.
+pub(crate) fn at_least(from: u32) -> Window
+    ensures { result ≡ wide from }
+{
+    Window { from, to: None }
+}
+
+pub(crate) fn up_to(window: Window, difference: u32) -> bool
+    ensures { result ≡ up_to window.to difference }
+{
+    match window.to {
+        Some(to) => difference <= to,
+        None => true,
+    }
+}
+
+pub(crate) fn beyond(window: Window, difference: u32) -> bool
+    ensures { result ≡ past window.to difference }
+{
+    match window.to {
+        Some(to) => to < difference,
+        None => false,
+    }
+}
+
+pub(crate) fn inside(window: Window, difference: u32) -> bool
+    ensures { result ≡ is_inside window difference }
+{
+    window.from <= difference && up_to(window, difference)
 }

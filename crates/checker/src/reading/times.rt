@@ -43,7 +43,8 @@ pub(crate) fn gap<L: Readable>(log: &L, kind: Kind, row: u16) -> Option<u32>
 
 // Whether a mark stands in a row; in none past the log's end.
 pub(crate) fn stands_at<L: Readable>(log: &L, row: usize, mark: u8) -> bool
-    ensures { result ≡ stands (row_at (L.Readable.rows log.now) row) mark }
+    ensures inside { row < length (L.Readable.rows log.now) → result ≡ stands (row_at (L.Readable.rows log.now) row) mark }
+    ensures anywhere { result ≡ stands (row_at (L.Readable.rows log.now) row) mark }
 {
     match log.mark(row, mark as u32) {
         Ok(stands) => stands,

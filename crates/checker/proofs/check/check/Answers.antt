@@ -8,16 +8,16 @@ use Rattle.checker.proofs.Answered.{by_size, promised}
 use Rattle.checker.proofs.Late.{late}
 use Rattle.checker.proofs.check.check.Goals as goal
 
-pub returns-in-err-fits : goal.returns-in-err-fits
-returns-in-err-fits g c =
-    let e = err_from_is_err_and c.from-residual.result c.from-residual.ensures.1 in
-    let is = ap told (e.1 ∙ ap Err e.2) ∙ by_size (lines_of c.args.table.now) (g.L.Readable.rows c.args.log.now) c.args.certificate.now (length c.args.stack.now) _ c.in-err-fits.ensures.answer in
-    let p = promised (lines_of c.args.table.now) (g.L.Readable.rows c.args.log.now) c.args.certificate.now (length c.args.stack.now) c.args.table.now.formed c.from-residual.result is in
+pub returns-in_err-fits : goal.returns-in_err-fits
+returns-in_err-fits g c =
+    let e = err_from_is_err_and c.from_residual.result c.from_residual.ensures.1 in
+    let is = ap told (e.1 ∙ ap Err e.2) ∙ by_size (lines_of c.args.table.now) (g.L.Readable.rows c.args.log.now) c.args.certificate.now (length c.args.stack.now) _ c.in_err-fits.ensures.answer in
+    let p = promised (lines_of c.args.table.now) (g.L.Readable.rows c.args.log.now) c.args.certificate.now (length c.args.stack.now) c.args.table.now.formed c.from_residual.result is in
     record { answer = is; exact = p.0; says = p.1; untouched = λ _. refl }
 
 pub returns : goal.returns
 returns g c =
-    let is = c.walk.ensures ∙ by_size (lines_of c.args.table.now) (g.L.Readable.rows c.args.log.now) c.args.certificate.now (length c.args.stack.now) _ c.in-ok-fits.ensures.answer in
+    let is = c.walk.ensures ∙ by_size (lines_of c.args.table.now) (g.L.Readable.rows c.args.log.now) c.args.certificate.now (length c.args.stack.now) _ c.in_ok-fits.ensures.answer in
     let p = promised (lines_of c.args.table.now) (g.L.Readable.rows c.args.log.now) c.args.certificate.now (length c.args.stack.now) c.args.table.now.formed _ is in
     record {
       answer = is;

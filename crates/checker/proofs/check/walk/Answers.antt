@@ -1,17 +1,17 @@
-use Rattle.std.proofs.Common.{◌-◌, ◌≤◌, length, get_or, take, sym, refl, ◌∙◌, arith, length-drop, length-set, length-take, length-take-le, ltb-false, ltb-true}
+use Rattle.std.proofs.Common.{◌≤◌, length, get_or, take, sym, refl, ◌∙◌, arith, length-drop, length-set, length-take, length-take-le, ltb-false, ltb-true}
 use Rattle.std.proofs.lemmas.Result.{err_from_is_err_and}
 use Rattle.mtl.specs.Tables.{lines_of}
 use Rattle.checker.proofs.Nodes.{wrong, right, at_end}
 use Rattle.checker.proofs.check.walk.Goals as goal
 
-pub returns-in-err-ruling : goal.returns-in-err-ruling
-returns-in-err-ruling g c =
+pub returns-in_err-ruling : goal.returns-in_err-ruling
+returns-in_err-ruling g c =
     let long : 6 ≤ length c.loop-left.left.now = omega (arith, ltb-false) in
-    let p = err_from_is_err_and c.from-residual.result c.from-residual.ensures.1 in
+    let p = err_from_is_err_and c.from_residual.result c.from_residual.ensures.1 in
     rw (p.1, p.2) (
     sym (wrong (lines_of c.args.table.now) (g.L.Readable.rows c.args.log.now) c.loop-left.left.now c.loop-left.at c.loop-left.top c.loop-left.stack
-    (record { line = get_or c.loop-left.left.now 0 0; rule = get_or c.loop-left.left.now 1 0; row = c.from-be-bytes-row.result; count = c.from-be-bytes-count.result })
-    long (refl, refl, c.from-be-bytes-row.ensures, c.from-be-bytes-count.ensures) _ c.in-err-ruling.ensures.step c.in-err-ruling.ensures.place)
+    (record { line = get_or c.loop-left.left.now 0 0; rule = get_or c.loop-left.left.now 1 0; row = c.from_be_bytes-row.result; count = c.from_be_bytes-count.result })
+    long (refl, refl, c.from_be_bytes-row.ensures, c.from_be_bytes-count.ensures) _ c.in_err-ruling.ensures.step c.in_err-ruling.ensures.place)
     ∙ c.loop-left.invariant.0)
 
 pub loop-left-preserved : goal.loop-left-preserved
@@ -19,10 +19,10 @@ loop-left-preserved g c =
     let long : 6 ≤ length c.loop-left.left.now = omega (arith, ltb-false) in
     let fits : c.loop-left.top ≤ length c.loop-left.stack = omega arith in
     let full = length-take-le c.loop-left.top c.loop-left.stack fits in
-    let few : c.from-be-bytes-count.result ≤ c.loop-left.top = omega (arith, c.in-ok-ruling.ensures.place) in (
+    let few : c.from_be_bytes-count.result ≤ c.loop-left.top = omega (arith, c.in_ok-ruling.ensures.place) in (
       sym (right (lines_of c.args.table.now) (g.L.Readable.rows c.args.log.now) c.loop-left.left.now c.loop-left.at c.loop-left.top c.loop-left.stack
-          (record { line = get_or c.loop-left.left.now 0 0; rule = get_or c.loop-left.left.now 1 0; row = c.from-be-bytes-row.result; count = c.from-be-bytes-count.result })
-          long (refl, refl, c.from-be-bytes-row.ensures, c.from-be-bytes-count.ensures) c.in-ok-ruling.ruling fits few (omega arith) c.in-ok-ruling.ensures.step)
+          (record { line = get_or c.loop-left.left.now 0 0; rule = get_or c.loop-left.left.now 1 0; row = c.from_be_bytes-row.result; count = c.from_be_bytes-count.result })
+          long (refl, refl, c.from_be_bytes-row.ensures, c.from_be_bytes-count.ensures) c.in_ok-ruling.ruling fits few (omega arith) c.in_ok-ruling.ensures.step)
           ∙ c.loop-left.invariant.0,
       omega arith,
       simp (length-take, length-drop) (omega arith),

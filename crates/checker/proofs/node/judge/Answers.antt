@@ -1,31 +1,41 @@
-use Rattle.std.proofs.Common.{◌-◌, ◌<◌, ◌≤◌, [], ◌∷◌, ◌++◌, length, take, sym, refl, ap, ◌∙◌, arith}
+use Rattle.std.proofs.Common.{◌≡◌, true, false, ◌-◌, ◌<◌, ◌≤◌, [], ◌∷◌, ◌++◌, length, take, sym, refl, ap, ◌∙◌, arith, rules}
+use denote.Enum.Bare.{sameb, same_true, same_false}
+use Rattle.proof_rules.specs.declared.standing.Standing.{Standing}
+use Rattle.proof_rules.specs.contracts.standing.Standing.{the_type}
 use Rattle.mtl.specs.Claims.{claim}
 use Rattle.mtl.specs.Checking.{goes}
 use Rattle.mtl.specs.Tables.{lines_of}
 use Rattle.checker.proofs.Judged.{Read, no_line, other_kind, no_row, wrong_count, few_waiting, wrong_child, outside_interval, not_placed, goes_on}
 use Rattle.checker.proofs.node.judge.Given as given
 use Rattle.checker.proofs.node.judge.Goals as goal
-use Rattle.checker.proofs.node.judge.Goals.{After-stand-standing, then-eq-2-via-then-eq-2, then-eq-2-via-else-eq-2+then-waiting-count, then-eq-3-via-then-eq-3, then-eq-3-via-else-eq-3+then-not-rows-fit}
+use Rattle.checker.proofs.node.judge.Goals.{After-stand-standing, then-eq-2-via-then-eq-2, then-eq-2-via-else-eq-2+then-waiting-count, then-eq-3-via-then-eq-3, then-eq-3-via-else-eq-3+then-not-rows_fit}
 
-read : (g : given.Over) (c : After-stand-standing g) → Read (lines_of c.args.table.now) (g.L.Readable.rows c.args.log.now) c.args.node c.parts-of-parts.result c.stand-standing.result
+-- what the tests of the standing say
+is : (a b : Standing) → true ≡ sameb the_type a b → a ≡ b
+is a b e = same_true the_type (search rules) a b (sym e)
+
+is_not : (a b : Standing) → false ≡ sameb the_type a b → a ≡ b → ⊥
+is_not a b e = same_false the_type a b (sym e)
+
+read : (g : given.Over) (c : After-stand-standing g) → Read (lines_of c.args.table.now) (g.L.Readable.rows c.args.log.now) c.args.node c.parts_of-parts.result c.stand-standing.result
 read g c =
     record {
       line = c.in-Some.line;
       gap = c.gap.result;
       found = c.in-Some.ensures;
-      parted = c.parts-of-parts.ensures;
+      parted = c.parts_of-parts.ensures;
       gapped = c.gap.ensures;
       stood = c.stand-standing.ensures;
     }
 
-pub returns-in-default : goal.returns-in-default
-returns-in-default g c =
-    record { step = no_line (lines_of c.args.table.now) (g.L.Readable.rows c.args.log.now) c.args.waiting.now c.args.node (sym c.in-default.ensures); place = refl }
+pub returns-in_default : goal.returns-in_default
+returns-in_default g c =
+    record { step = no_line (lines_of c.args.table.now) (g.L.Readable.rows c.args.log.now) c.args.waiting.now c.args.node (sym c.in_default.ensures); place = refl }
 
 pub returns-then-eq : goal.returns-then-eq
 returns-then-eq g c =
     record {
-      step = other_kind c.args.waiting.now (read g (goal.at.returns-then-eq g c).After-stand-standing) c.if-eq.ensures;
+      step = other_kind c.args.waiting.now (read g (goal.at.returns-then-eq g c).After-stand-standing) (is _ _ c.if-eq.ensures);
       place = refl;
     }
 
@@ -33,7 +43,7 @@ pub returns-then-node-len : goal.returns-then-node-len
 returns-then-node-len g c =
     let over : length (g.L.Readable.rows c.args.log.now) ≤ c.args.node.row = omega arith in
     record {
-      step = no_row c.args.waiting.now (read g (goal.at.returns-then-node-len g c).After-stand-standing) c.if-eq.ensures over;
+      step = no_row c.args.waiting.now (read g (goal.at.returns-then-node-len g c).After-stand-standing) (is_not _ _ c.if-eq.ensures) over;
       place = refl;
     }
 
@@ -43,19 +53,19 @@ returns-then-eq-2 g c =
     record {
       step = elim c.then-eq-2.branch [
         | then-eq-2-via-then-eq-2 w ↦
-            wrong_count c.args.waiting.now (read g (goal.at.returns-then-eq-2 g c).After-stand-standing) w.if-eq-2.ensures row
+            wrong_count c.args.waiting.now (read g (goal.at.returns-then-eq-2 g c).After-stand-standing) (is _ _ w.if-eq-2.ensures) row
         | then-eq-2-via-else-eq-2+then-waiting-count w ↦
-            few_waiting c.args.waiting.now (read g (goal.at.returns-then-eq-2 g c).After-stand-standing) c.if-eq.ensures row w.if-waiting-count.true
+            few_waiting c.args.waiting.now (read g (goal.at.returns-then-eq-2 g c).After-stand-standing) (is_not _ _ c.if-eq.ensures) row w.if-waiting-count.true
       ];
       place = refl;
     }
 
-pub returns-then-not-lines-fit : goal.returns-then-not-lines-fit
-returns-then-not-lines-fit g c =
+pub returns-then-not-lines_fit : goal.returns-then-not-lines_fit
+returns-then-not-lines_fit g c =
     let row : c.args.node.row < length (g.L.Readable.rows c.args.log.now) = omega arith in
     let many : c.args.node.count ≤ length c.args.waiting.now = omega arith in
     record {
-      step = wrong_child c.args.waiting.now (read g (goal.at.returns-then-not-lines-fit g c).After-stand-standing) c.if-eq.ensures c.if-eq-2.ensures row many (sym c.lines-fit.ensures ∙ c.if-not-lines-fit.true);
+      step = wrong_child c.args.waiting.now (read g (goal.at.returns-then-not-lines_fit g c).After-stand-standing) (is_not _ _ c.if-eq.ensures) (is_not _ _ c.if-eq-2.ensures) row many (sym c.lines_fit.ensures ∙ c.if-not-lines_fit.true);
       place = refl;
     }
 
@@ -66,9 +76,9 @@ returns-then-eq-3 g c =
     record {
       step = elim c.then-eq-3.branch [
         | then-eq-3-via-then-eq-3 w ↦
-            outside_interval c.args.waiting.now (read g (goal.at.returns-then-eq-3 g c).After-stand-standing) c.if-eq.ensures c.if-eq-2.ensures row many (sym c.lines-fit.ensures ∙ c.if-not-lines-fit.false) w.if-eq-3.ensures
-        | then-eq-3-via-else-eq-3+then-not-rows-fit w ↦
-            not_placed c.args.waiting.now (read g (goal.at.returns-then-eq-3 g c).After-stand-standing) c.if-eq.ensures c.if-eq-2.ensures row many (sym c.lines-fit.ensures ∙ c.if-not-lines-fit.false) (sym w.rows-fit.ensures ∙ w.if-not-rows-fit.true)
+            outside_interval c.args.waiting.now (read g (goal.at.returns-then-eq-3 g c).After-stand-standing) (is_not _ _ c.if-eq.ensures) (is_not _ _ c.if-eq-2.ensures) row many (sym c.lines_fit.ensures ∙ c.if-not-lines_fit.false) (is _ _ w.if-eq-3.ensures)
+        | then-eq-3-via-else-eq-3+then-not-rows_fit w ↦
+            not_placed c.args.waiting.now (read g (goal.at.returns-then-eq-3 g c).After-stand-standing) (is_not _ _ c.if-eq.ensures) (is_not _ _ c.if-eq-2.ensures) row many (sym c.lines_fit.ensures ∙ c.if-not-lines_fit.false) (sym w.rows_fit.ensures ∙ w.if-not-rows_fit.true)
       ];
       place = refl;
     }
@@ -79,8 +89,8 @@ returns g c =
     let many : c.args.node.count ≤ length c.args.waiting.now = omega arith in
     record {
       step =
-          ap (λ r. goes (take (length c.args.waiting.now - c.args.node.count) c.args.waiting.now ++ (claim c.args.node.line c.args.node.row r ∷ []))) c.ruling-of.ensures
-          ∙ goes_on c.args.waiting.now (read g (goal.at.returns g c).After-stand-standing) c.if-eq.ensures c.if-eq-2.ensures row many (sym c.lines-fit.ensures ∙ c.if-not-lines-fit.false)
-          c.if-eq-3.ensures (sym c.rows-fit.ensures ∙ c.if-not-rows-fit.false);
+          ap (λ r. goes (take (length c.args.waiting.now - c.args.node.count) c.args.waiting.now ++ (claim c.args.node.line c.args.node.row r ∷ []))) c.ruling_of.ensures
+          ∙ goes_on c.args.waiting.now (read g (goal.at.returns g c).After-stand-standing) (is_not _ _ c.if-eq.ensures) (is_not _ _ c.if-eq-2.ensures) row many (sym c.lines_fit.ensures ∙ c.if-not-lines_fit.false)
+          (is_not _ _ c.if-eq-3.ensures) (sym c.rows_fit.ensures ∙ c.if-not-rows_fit.false);
       place = many;
     }

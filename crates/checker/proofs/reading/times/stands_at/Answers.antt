@@ -7,4 +7,5 @@ use Rattle.checker.proofs.reading.times.stands_at.Goals as goal
 pub returns-in-Err : goal.returns-in-Err
 returns-in-Err g c =
     let past = refused_past (g.L.Readable.rows c.args.log.now) c.args.row _ _ c.in-Err.ensures in
-    sym (ap (λ (x : Row). stands x c.args.mark) past ∙ blank_stands c.args.mark)
+    let blank = sym (ap (λ (x : Row). stands x c.args.mark) past ∙ blank_stands c.args.mark) in
+    record { inside = λ _. blank; anywhere = blank }
