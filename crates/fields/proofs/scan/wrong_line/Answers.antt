@@ -17,23 +17,23 @@ loop-i-preserved c =
     let here = c.loop-i-test.true in
     let back : i + 1 - 1 ≡ i = omega arith in
     let last : get_or text (i + 1 - 1) 0 ≡ get_or text i 0 = ap (λ k. get_or text k 0) back in
-    let more = prefix_len-drop_yes allowed text i 0 here (sym c.if-not-is-allowed.ensures) in
+    let more = prefix_len-drop_yes allowed text i 0 here (sym c.if-not-is_allowed.ensures) in
     elim c.if-b-eq10.branch [
       | then-b-eq10 w ↦
           let is = w.if-b-eq10.true in
           let line = count_by_more_yes (λ b. eqb b 10) text i 0 here (eq-eqb _ 10 is) in
-          (omega (arith, w.line_is), omega (arith, w.line_is), omega arith, omega (arith, w.ended-is), λ _ _. last ∙ is, λ less _. omega (arith, w.ended-is))
+          (omega (arith, w.line-is), omega (arith, w.line-is), omega arith, omega (arith, w.ended-is), λ _ _. last ∙ is, λ less _. omega (arith, w.ended-is))
       | else-b-eq10 w ↦
           let off = w.if-b-eq10.false in
           let line = count_by_more_no (λ b. eqb b 10) text i 0 here (ne_eqb _ 10 off) in
-          (omega (arith, w.line_is), omega (arith, w.line_is), omega arith, omega (arith, w.ended-is), λ same _. omega (arith, w.ended-is), λ _ is. off (sym last ∙ is))
+          (omega (arith, w.line-is), omega (arith, w.line-is), omega arith, omega (arith, w.ended-is), λ same _. omega (arith, w.ended-is), λ _ is. off (sym last ∙ is))
     ]
 
-pub returns-then-not-is-allowed : goal.returns-then-not-is-allowed
-returns-then-not-is-allowed c =
+pub returns-then-not-is_allowed : goal.returns-then-not-is_allowed
+returns-then-not-is_allowed c =
     let bs = c.args.text.now in
     let i = c.loop-i.i in
-    let here : prefix_len allowed bs ≡ i = omega (arith, c.loop-i.invariant.2, prefix_len-drop_no allowed bs i 0 c.loop-i-test.true (sym c.if-not-is-allowed.ensures)) in
+    let here : prefix_len allowed bs ≡ i = omega (arith, c.loop-i.invariant.2, prefix_len-drop_no allowed bs i 0 c.loop-i-test.true (sym c.if-not-is_allowed.ensures)) in
     ap Some (c.loop-i.invariant.1 ∙ ap (line_at bs) (sym here)) ∙ sym (cond-true _ _ _ (lt-ltb (prefix_len allowed bs) (length bs) (omega arith)))
 
 -- past the last byte

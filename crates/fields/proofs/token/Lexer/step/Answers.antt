@@ -5,7 +5,7 @@ use Rattle.fields.specs.declared.state.State.{State}
 use Rattle.fields.specs.declared.state.State.TheVariants.{Inside, Dashed}
 use Rattle.fields.proofs.Cutting.{sofar, grows, at_byte, now_dashed, now_inside, past_open, Ordinary, when_fresh, when_inside, when_dashed}
 use Rattle.fields.proofs.token.Lexer.step.Goals as goal
-use Rattle.fields.proofs.token.Lexer.step.Goals.{in-default-via-in-Dashed·+in-default·, in-default-via-in-Fresh·+in-default·, in-default-via-in-Inside·+in-default·, In-default, at·ghost-self-in-default, at·returns-in-default}
+use Rattle.fields.proofs.token.Lexer.step.Goals.{in_default-via-in-Dashed+in_default, in_default-via-in-Fresh+in_default, in_default-via-in-Inside+in_default, In_default}
 
 pub invariant_of-self : goal.invariant_of-self
 invariant_of-self c =
@@ -14,7 +14,7 @@ invariant_of-self c =
     let in_s : l.at < length s = c.requires.0 in
     let none : is_none (sofar s l.from l.at) ≡ true = ap (λ (x : State). agrees x (sofar s l.from l.at)) (sym c.in-Fresh-eq45.is-0) ∙ l.sofar in
     let one = past_open l.state (subst Open (sym c.in-Fresh-eq45.is-0) tt) in
-    ((omega arith, omega arith, omega arith), (ap is_dash (grows s l.from l.at (omega arith) in_s) ∙ now_dashed _ (get_or s l.at 0) none (sym c.requires.1 ∙ c.in-Fresh-eq45.is-1), tt))
+    record { within = (omega arith, omega arith, omega arith); sofar = ap is_dash (grows s l.from l.at (omega arith) in_s) ∙ now_dashed _ (get_or s l.at 0) none (sym c.requires.1 ∙ c.in-Fresh-eq45.is-1) }
 
 pub returns-in-Fresh-eq45 : goal.returns-in-Fresh-eq45
 returns-in-Fresh-eq45 c =
@@ -27,26 +27,26 @@ returns-in-Fresh-eq45 c =
       field = refl;
     }
 
-ordinary : (c : goal.In-default) → Ordinary c.args.self.now.state c.args.byte
-ordinary c = elim c.in-default.branch [
-  | in-default-via-in-Dashed·+in-default· w ↦ when_dashed _ _ (search arith) (λ e. omega arith)
-  | in-default-via-in-Fresh·+in-default· w ↦ when_fresh _ _ (search arith) (λ e. omega arith) (λ e. omega arith)
-  | in-default-via-in-Inside·+in-default· w ↦ when_inside _ _ (search arith) (λ e. omega arith)
+ordinary : (c : goal.In_default) → Ordinary c.args.self.now.state c.args.byte
+ordinary c = elim c.in_default.branch [
+  | in_default-via-in-Dashed+in_default w ↦ when_dashed _ _ (search arith) (λ e. omega arith)
+  | in_default-via-in-Fresh+in_default w ↦ when_fresh _ _ (search arith) (λ e. omega arith) (λ e. omega arith)
+  | in_default-via-in-Inside+in_default w ↦ when_inside _ _ (search arith) (λ e. omega arith)
 ]
 
-pub invariant_of-self-in-default : goal.invariant_of-self-in-default
-invariant_of-self-in-default c =
+pub invariant_of-self-in_default : goal.invariant_of-self-in_default
+invariant_of-self-in_default c =
     let l = c.args.self.now in
     let s = l.text.now in
     let in_s : l.at < length s = c.requires.0 in
-    let o = ordinary (goal.at.invariant_of-self-in-default c).In-default in
+    let o = ordinary (goal.at.invariant_of-self-in_default c).In_default in
     let one = past_open l.state o.is_open in
-    ((omega arith, omega arith, omega arith), (ap is_word (grows s l.from l.at (omega arith) in_s) ∙ now_inside l.state _ (get_or s l.at 0) l.sofar o.is_open (λ f e. o.minus f (c.requires.1 ∙ e)), tt))
+    record { within = (omega arith, omega arith, omega arith); sofar = ap is_word (grows s l.from l.at (omega arith) in_s) ∙ now_inside l.state _ (get_or s l.at 0) l.sofar o.is_open (λ f e. o.minus f (c.requires.1 ∙ e)) }
 
-pub returns-in-default : goal.returns-in-default
-returns-in-default c =
+pub returns-in_default : goal.returns-in_default
+returns-in_default c =
     let l = c.args.self.now in
-    let o = ordinary (goal.at.returns-in-default c).In-default in
+    let o = ordinary (goal.at.returns-in_default c).In_default in
     record {
       rest = at_byte l.state Inside l.text.now l.from l.at o.is_open tt (omega arith) c.requires.0 (λ e. o.space (c.requires.1 ∙ e));
       at = refl;
