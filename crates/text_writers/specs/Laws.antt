@@ -1,6 +1,5 @@
 -- The laws of the texts: what is written is read back.
-use Rattle.std.specs.Prelude.{◌≡◌, ℕ, ◌-◌, ◌^◌, ◌<◌, ◌≤◌, Bool, true, List, [], ◌∷◌, ◌++◌, map, length, take, Some, None, Option, slice_index_or}
-use Rattle.logs.specs.Masks.{mask_room}
+use Rattle.std.specs.Prelude.{◌≡◌, ℕ, ◌-◌, ◌^◌, ◌<◌, ◌≤◌, Bool, true, List, [], ◌∷◌, ◌++◌, map, length, take, Some, None, Option, nat_lt, slice_index_or}
 use Rattle.mtl.specs.Lines.{Rules, line_at, WellFormed}
 use Rattle.mtl.specs.Rows.{row_at, NeverFalls, AllFit}
 use Rattle.mtl.specs.declared.line.Line.{Line}
@@ -54,11 +53,11 @@ LogsBack =
     (room : List Row → Row → Bool) (marks : ℕ) (R : List Row) → marks ≤ 32 → length R ≤ 128 → NeverFalls R → AllFit R → MarksBelow marks R → RoomFor room R →
     read_log room (log_text marks R) [] ≡ accepts R
 
--- the same for the mask log
+-- the same for a log whose room rule is fewer than 128 rows, as the mask log's is
 abbrev pub MaskLogsBack : Type 0
 MaskLogsBack =
     (marks : ℕ) (R : List Row) → marks ≤ 32 → length R ≤ 128 → NeverFalls R → AllFit R → MarksBelow marks R →
-    read_log mask_room (log_text marks R) [] ≡ accepts R
+    read_log (λ S _. nat_lt (length S) 128) (log_text marks R) [] ≡ accepts R
 
 -- a rules text that is read without fault is the text of the table that it gives
 abbrev pub RulesOnly : Type 0

@@ -34,7 +34,7 @@ fn read_line(text: &[u8], line: usize, draft: &mut Draft) -> Result<(), TextFaul
 fn names_fields(line: &[u8]) -> bool
     ensures { result ≡ bytes_eq line.now (codes "line kind from to left right") }
 {
-    line == b"line kind from to left right"
+    line == b"line kind from to left right".as_slice()
 }
 
 // Reads a rules text into a draft. The lines before a faulty one stay entered.
