@@ -1,9 +1,9 @@
 -- The book: an array of records, each with an array of entries.
-use Rattle.std.proofs.Common.{◌≡◌, ℕ, zero, suc, ◌+◌, ◌*◌, ◌<◌, ◌≤◌, Bool, true, false, cond, ◌&&◌, T as Yes, eqb, List, [], ◌∷◌, length, get_or, set, replicate, sym, refl, ap, ◌∙◌, subst, arith, eqb→eq}
+use Rattle.std.proofs.Common.{◌≡◌, ℕ, zero, suc, ◌<◌, Bool, true, false, cond, ◌&&◌, T as Yes, eqb, List, length, get_or, set, replicate, sym, refl, ap, ◌∙◌, subst, eqb→eq}
 use lib.Dec.{eqb_refl}
 use Rattle.std.proofs.lemmas.List.{get_or-set_same, get_or-set_other}
 use Rattle.cases.specs.Runs.{Entry, Open}
-use Rattle.cases.specs.View.{shown_at, no_record}
+use Rattle.cases.specs.View.{no_record}
 use Rattle.cases.specs.declared.book.LineRecord.{LineRecord}
 
 abbrev line : ℕ → LineRecord

@@ -5,7 +5,7 @@ use Rattle.mtl.specs.Claims.{claim}
 use Rattle.mtl.specs.Lists.{AllOf}
 use Rattle.mtl.specs.declared.ruling.Claim.{Claim}
 use Rattle.mtl.specs.declared.ruling.Ruling.{Ruling}
-use Rattle.cases.specs.Runs.{State, Event, Entry, Open, entry_of, entered, rules, Step, Run, done, then}
+use Rattle.cases.specs.Runs.{State, Event, Entry, Open, entry_of, entered, rules, Run, done, then}
 use Rattle.cases.specs.Law.{Leaves, LastRuled, none_ruled, last_ruled}
 
 -- from an entry x on: it stays if no event rules there

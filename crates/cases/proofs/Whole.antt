@@ -1,5 +1,5 @@
 -- The law of the case.
-use Rattle.std.proofs.Common.{◌≡◌, ℕ, List, [], ◌∷◌, Some, None, Ok, Err, Option, Result, sym, refl, ◌∙◌, subst, arith}
+use Rattle.std.proofs.Common.{◌≡◌, ℕ, List, Some, None, Ok, Option, sym, refl, subst, arith}
 use Rattle.mtl.specs.declared.row.Row.{Row}
 use Rattle.mtl.specs.declared.ruling.Ruling.{Ruling}
 use Rattle.mtl.specs.declared.ruling.Ruling.TheVariants.{Held as held, Broken as broken}
@@ -10,7 +10,7 @@ use Rattle.mtl.specs.Continuations.{TrueIn, Always}
 use Rattle.mtl.specs.Laws.{SettleSays}
 use Rattle.mtl.proofs.Consistent.{onward, onward_continues}
 use Rattle.mtl.proofs.Settles.{settle_says}
-use Rattle.cases.specs.Runs.{State, Event, Entry, Ruled, Looked, Run, show_questions}
+use Rattle.cases.specs.Runs.{State, Event, Entry, Ruled, Looked, show_questions}
 use Rattle.cases.specs.Law.{Opened, Law, LastRuled, Gave, rows_held}
 use Rattle.cases.proofs.Kept.{Good, At, happened, ruling_true, gave_true, run_good}
 use Rattle.cases.proofs.Shown.{run_shows}

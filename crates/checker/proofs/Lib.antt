@@ -1,3 +1,4 @@
+pub mod PastEnd
 pub mod Walks
 pub mod Alike
 pub mod Coded

@@ -3,6 +3,7 @@
 
 mod compare;
 mod inputs;
+mod numbers;
 
 use compare::Tally;
 use logs::any_log::{add_all, same_answers};
@@ -15,21 +16,21 @@ use std::alloc::Global;
 use std::io;
 
 // What a log says to the row after those that it took: the number of its refusal, or 0.
-fn told_next<L: Growing>(log: &mut L, rows: &[Row], taken: usize) -> u8 {
+fn told_next<L: Growing>(log: &mut L, rows: &[Row], taken: usize) -> u32 {
     match rows.get(taken) {
         Some(row) => match log.add(*row) {
             Ok(()) => 0,
-            Err(fault) => fault.number(),
+            Err(fault) => numbers::add_number(fault),
         },
         None => 0,
     }
 }
 
 // What a log says to a time past its last row.
-fn told_past<L: Readable>(log: &L) -> u8 {
+fn told_past<L: Readable>(log: &L) -> u32 {
     match log.time(log.len()) {
         Ok(_) => 0,
-        Err(fault) => fault.number(),
+        Err(fault) => numbers::read_number(fault),
     }
 }
 
@@ -53,7 +54,7 @@ fn try_sheet(rt: &impl Print, heap: Global, rows: &[Row], tally: &mut Tally) -> 
     let (sheet, answer) = Sheet::read(bytes.as_slice());
     let told = match answer {
         Ok(()) => 0,
-        Err(fault) => fault.number(),
+        Err(fault) => numbers::sheet_number(fault),
     };
     let past = told_past(&sheet);
     let len = sheet.len();

@@ -1,5 +1,5 @@
 -- One call more.
-use Rattle.std.proofs.Common.{◌≡◌, List, [], ◌∷◌, ◌++◌}
+use Rattle.std.proofs.Common.{List, [], ◌∷◌, ◌++◌}
 use Rattle.replays.specs.declared.call.Call.{Call}
 use Rattle.replays.specs.declared.call.Answer.{Answer}
 use Rattle.cases.specs.Runs.{State, Event, Step, Run, done, then}

@@ -1,5 +1,4 @@
 use Rattle.std.proofs.Common.{refl}
-use Rattle.cases.specs.declared.case.Case.{Case}
 use Rattle.cases.specs.Law.{Opened}
 use Rattle.cases.specs.View.{state_of}
 use Rattle.cases.proofs.Whole.{lawful}
