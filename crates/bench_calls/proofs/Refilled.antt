@@ -1,5 +1,5 @@
 -- Buffers that Settle leaves, and leaves again.
-use Rattle.std.proofs.Common.{◌≡◌, ℕ, Bool, true, false, cond, List, ◌++◌, length, drop, Result, sym, refl, ap, ◌∙◌}
+use Rattle.std.proofs.Common.{◌≡◌, ℕ, Bool, true, false, cond, List, ◌++◌, length, drop, Result, sym, ap, ◌∙◌}
 use Rattle.std.proofs.lemmas.List.{drop_at}
 use Rattle.mtl.specs.Buffers.{cells, early, Fills}
 use Rattle.mtl.specs.Lines.{Rules}

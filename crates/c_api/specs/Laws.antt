@@ -1,5 +1,5 @@
 -- What the lengths of the calls' own buffers come to.
-use Rattle.std.specs.Prelude.{◌≡◌, ℕ, ◌≤◌, List, Err, ◌≢◌}
+use Rattle.std.specs.Prelude.{ℕ, ◌≤◌, List, Err, ◌≢◌}
 use Rattle.mtl.specs.declared.row.Row.{Row}
 use Rattle.mtl.specs.Checking.{refused, check_answer}
 use Rattle.mtl.specs.Lines.{Rules}

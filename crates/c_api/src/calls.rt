@@ -1,4 +1,4 @@
-// The exported functions. Each reads its texts anew, and keeps nothing.
+// The calls that `c_api_c` exports to C. Each reads its texts anew, and keeps nothing.
 ghost use Rattle.std.specs.Prelude.{◌≡◌, length};
 ghost use Rattle.c_api.specs.Answers.{read_rules_returns, read_log_returns, check_returns, settle_returns};
 ghost use Rattle.c_api.specs.Meanings.{ReadMeans, CheckMeans, SettleMeans};
@@ -16,8 +16,7 @@ use texts::log::read_log;
 use texts::rules::read_rules;
 
 // Reads a rules text, and tells how many lines its table has.
-#[unsafe(no_mangle)]
-pub extern "C" fn sanqizhet_read_rules_nonnull(text: &[u8]) -> ReadAnswer
+pub fn sanqizhet_read_rules_nonnull(text: &[u8]) -> ReadAnswer
     ensures answer { result ≡ read_rules_returns text.now }
     ensures says { ReadMeans (rules_read text.now) result }
 {
@@ -33,8 +32,7 @@ pub extern "C" fn sanqizhet_read_rules_nonnull(text: &[u8]) -> ReadAnswer
 }
 
 // Reads a log text, and tells how many rows it has.
-#[unsafe(no_mangle)]
-pub extern "C" fn sanqizhet_read_log_nonnull(text: &[u8]) -> ReadAnswer
+pub fn sanqizhet_read_log_nonnull(text: &[u8]) -> ReadAnswer
     ensures answer { result ≡ read_log_returns text.now }
     ensures says { ReadMeans (log_read text.now) result }
 {
@@ -50,12 +48,7 @@ pub extern "C" fn sanqizhet_read_log_nonnull(text: &[u8]) -> ReadAnswer
 }
 
 // Checks a certificate on the table and the log of two texts, and tells the claim that it proves.
-#[unsafe(no_mangle)]
-pub extern "C" fn sanqizhet_check_nonnull(
-    rules: &[u8],
-    log: &[u8],
-    certificate: &[u8],
-) -> CheckAnswer
+pub fn sanqizhet_check_nonnull(rules: &[u8], log: &[u8], certificate: &[u8]) -> CheckAnswer
     ensures answer { result ≡ check_returns rules.now log.now certificate.now }
     ensures says { CheckMeans rules.now log.now certificate.now result }
 {
@@ -64,8 +57,7 @@ pub extern "C" fn sanqizhet_check_nonnull(
 
 // Settles a line at a row of the table and the log of two texts, and writes the shortest certificate
 // to the front of the output.
-#[unsafe(no_mangle)]
-pub extern "C" fn sanqizhet_settle_nonnull(
+pub fn sanqizhet_settle_nonnull(
     rules: &[u8],
     log: &[u8],
     line: usize,

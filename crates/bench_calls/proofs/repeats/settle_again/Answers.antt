@@ -1,4 +1,4 @@
-use Rattle.std.proofs.Common.{◌≡◌, ℕ, length, Result, sym, ◌∙◌, subst}
+use Rattle.std.proofs.Common.{ℕ, length, Result, sym, ◌∙◌, subst}
 use Rattle.logs.specs.contracts.mask.MaskLogReadable.TheImpl.{ghosts as MaskRows}
 use Rattle.mtl.specs.Buffers.{Fills}
 use Rattle.mtl.specs.Settling.{lengths, settle_answer}
