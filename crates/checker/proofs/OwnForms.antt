@@ -147,8 +147,8 @@ module _ (R : List Row) (i n : ℕ) where
 
 -- a rule of no form is of another kind
 
-abbrev None-of : ℕ → List Form → Type 0
-None-of n fs = AllOf (λ (f : Form). f.number ≡ n → ⊥) fs
+abbrev NoneOf : ℕ → List Form → Type 0
+NoneOf n fs = AllOf (λ (f : Form). f.number ≡ n → ⊥) fs
 
 outside : (a b n : ℕ) → (a ≤ n → n ≤ b → ⊥) → within a b n ≡ false
 outside a b n h =
@@ -157,7 +157,7 @@ outside a b n h =
     over : a ≤ n → b < n
     over le = elim (cases_lt b n) [ inl lt ↦ lt | inr ge ↦ absurd (h le ge) ]
 
-other : (R : List Row) (i n : ℕ) (l : Line) → None-of n (forms R i l) → of_kind (parts_of l).kind n ≡ false
+other : (R : List Row) (i n : ℕ) (l : Line) → NoneOf n (forms R i l) → of_kind (parts_of l).kind n ≡ false
 unfolding forms
 other R i n (mark m) h = outside 1 2 n (λ a b. omega (arith, h.0, h.1.0))
 other R i n (neg l) h = outside 3 4 n (λ a b. omega (arith, h.0, h.1.0))
@@ -175,7 +175,7 @@ Agrees R i p n (Some f) = Coded R i p n f
 Agrees R i p n None = of_kind p.kind n ≡ false
 
 look : (R : List Row) (i : ℕ) (p : Parts) (n : ℕ) (fs : List Form) → AllOf (λ (f : Form). f.number ≡ n → Coded R i p n f) fs →
-    (None-of n fs → of_kind p.kind n ≡ false) → Agrees R i p n (form_at fs n)
+    (NoneOf n fs → of_kind p.kind n ≡ false) → Agrees R i p n (form_at fs n)
 unfolding form_at
 look R i p n [] a h = h tt
 look R i p n (f ∷ fs) a h = go (eqb f.number n) (eqb-true f.number n) (λ e. look R i p n fs a.1 (λ k. h (eqb-false f.number n e, k)))

@@ -9,7 +9,7 @@ use Rattle.mtl.specs.Lines.{Rules, WellFormed}
 use Rattle.mtl.specs.Questions.{first_no, answer, FirstNot}
 use Rattle.mtl.specs.Reach.{Reach}
 use Rattle.mtl.specs.Rows.{Row, NeverFalls}
-use Rattle.mtl.specs.Settling.{Settlement, one_of, settlement, Lengths, any, proof_of, ruling_of, Settled, settle_questions, settle_by, settle_answer, settle_writes, Some-certificate, SettleAsks}
+use Rattle.mtl.specs.Settling.{Settlement, one_of, settlement, Lengths, any, proof_of, ruling_of, Settled, settle_questions, settle_by, settle_answer, settle_writes, SomeCertificate, SettleAsks}
 use Rattle.mtl.specs.Shortest.{certificate, Best}
 use Rattle.mtl.proofs.Asked.{yes_all, Test, first_not}
 use Rattle.mtl.proofs.Checks.{formed}
@@ -115,7 +115,7 @@ module _ (T : Rules) (R : List Row) (wf : WellFormed T) (up : NeverFalls R) (n i
         where
           tests : (o : Option Settlement) → Settles T R n i o →
               Test ((24, any o) ∷ (25, leb (length (proof_of o)) 4096) ∷ (26, leb (6 * length (proof_of o)) ls.out) ∷ [])
-              ((24, Some-certificate T R n i (λ size. Unit {0})) ∷ (25, Some-certificate T R n i (λ size. size ≤ 4096)) ∷ (26, Some-certificate T R n i (λ size. 6 * size ≤ ls.out)) ∷ [])
+              ((24, SomeCertificate T R n i (λ size. Unit {0})) ∷ (25, SomeCertificate T R n i (λ size. size ≤ 4096)) ∷ (26, SomeCertificate T R n i (λ size. 6 * size ≤ ls.out)) ∷ [])
           tests None k = (refl, (λ t. absurd t), (λ h. k h.0 h.1 h.2), (λ h. absurd (k h.0 h.1 h.2)))
           tests (Some d) k = (
             refl,
@@ -134,7 +134,7 @@ module _ (T : Rules) (R : List Row) (wf : WellFormed T) (up : NeverFalls R) (n i
   pub in_reach : (ls : Lengths) → Reach R (formula T n) i → settle_answer T R n i ls ≡ Err 24 → ⊥
   in_reach ls reach e = go (asks ls 24 e)
     where
-      some : Certified T R (Held n i) ⊎ Certified T R (Broken n i) → Some-certificate T R n i (λ size. Unit {0})
+      some : Certified T R (Held n i) ⊎ Certified T R (Broken n i) → SomeCertificate T R n i (λ size. Unit {0})
       some (inl h) = (held, h.0, h.1, tt)
       some (inr h) = (broken, h.0, h.1, tt)
 

@@ -65,17 +65,17 @@ settle_writes T R n i (Ok s) = bytes (proof_of (settlement T R n i))
 settle_writes T R n i (Err q) = []
 
 -- Settle's questions as statements about certificates: some certificate of the line at the row is such
-abbrev pub Some-certificate : Rules → List Row → ℕ → ℕ → (ℕ → Type 0) → Type 0
-Some-certificate T R n i P = (r : Ruling) × (ns : List Node) × Cert T R (claim n i r) ns × P (length ns)
+abbrev pub SomeCertificate : Rules → List Row → ℕ → ℕ → (ℕ → Type 0) → Type 0
+SomeCertificate T R n i P = (r : Ruling) × (ns : List Node) × Cert T R (claim n i r) ns × P (length ns)
 
 abbrev pub SettleAsks : Rules → List Row → ℕ → ℕ → Lengths → List (ℕ × Type 0)
 SettleAsks T R n i ls =
     (21, n < length T) ∷
     (22, i < length R) ∷
     (23, (8192 ≤ ls.sizes) × (8192 ≤ ls.plan)) ∷
-    (24, Some-certificate T R n i (λ size. Unit {0})) ∷
-    (25, Some-certificate T R n i (λ size. size ≤ 4096)) ∷
-    (26, Some-certificate T R n i (λ size. 6 * size ≤ ls.out)) ∷ []
+    (24, SomeCertificate T R n i (λ size. Unit {0})) ∷
+    (25, SomeCertificate T R n i (λ size. size ≤ 4096)) ∷
+    (26, SomeCertificate T R n i (λ size. 6 * size ≤ ls.out)) ∷ []
 
 -- what a Settle with this answer wrote, read off the output
 abbrev pub wrote : Result Settled ℕ → List ℕ → List ℕ

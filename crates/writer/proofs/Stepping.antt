@@ -26,11 +26,11 @@ kids_below P r code s (f ∷ fs) (by_this j u a o b k q) h = subst (λ (t : Step
 kids_below P r code s (f ∷ fs) (by_later n) h = kids_below P r code s fs n h.1
 
 -- a child that a writer can go on to
-abbrev pub Next-to : Rules → List Row → List ℕ → ℕ → Claim → Type 0
-Next-to T R plan n k = Writable T R plan k × (k.line < n)
+abbrev pub NextTo : Rules → List Row → List ℕ → ℕ → Claim → Type 0
+NextTo T R plan n k = Writable T R plan k × (k.line < n)
 
 kids_next : (T : Rules) (R : List Row) (plan : List ℕ) (n : ℕ) (c : Claim) → Writable T R plan c → (cs : List Claim) →
-    AllOf (Short T R) cs → AllOf (λ (k : Claim). k.line < n) cs → AllOf (Next-to T R plan n) cs
+    AllOf (Short T R) cs → AllOf (λ (k : Claim). k.line < n) cs → AllOf (NextTo T R plan n) cs
 kids_next T R plan n c w [] a b = tt
 kids_next T R plan n c w (k ∷ ks) a b =
     let r = plan_says T w.given.ordered R w.given.few_rows k a.0 in (
@@ -53,7 +53,7 @@ kids_next T R plan n c w (k ∷ ks) a b =
 module _ (T : Rules) (R : List Row) (plan : List ℕ) (c : Claim) (w : Writable T R plan c) where
   -- what is written by a step: its children, all of earlier lines, and then its node
   abbrev Done : Step → Type 0
-  Done s = AllOf (Next-to T R plan c.line) s.kids × (cert_bytes T R c ≡ all_bytes T R s.kids ++ node c.line s.rule c.row (length s.kids))
+  Done s = AllOf (NextTo T R plan c.line) s.kids × (cert_bytes T R c ≡ all_bytes T R s.kids ++ node c.line s.rule c.row (length s.kids))
 
   -- the step that the plan names at the claim's cell
   step_at : (s : Step) × Names c.ruling (cell_in plan c) s (forms R c.row (line_at T c.line)) × Done s
@@ -69,7 +69,7 @@ module _ (T : Rules) (R : List Row) (plan : List ℕ) (c : Claim) (w : Writable 
   by_way v t = let r = step_at in subst Done (t r.0 r.1) r.2
 
   pub by_not : (rule : ℕ) (k : Claim) → ((s : Step) → Names c.ruling (cell_in plan c) s (forms R c.row (line_at T c.line)) → s ≡ by rule (k ∷ [])) →
-      Next-to T R plan c.line k × (cert_bytes T R c ≡ cert_bytes T R k ++ node c.line rule c.row 1)
+      NextTo T R plan c.line k × (cert_bytes T R c ≡ cert_bytes T R k ++ node c.line rule c.row 1)
   by_not rule k t =
       let r = step_at in
       let z = subst Done (t r.0 r.1) r.2 in

@@ -13,7 +13,7 @@ use Rattle.mtl.specs.declared.ruling.Claim.{Claim}
 use Rattle.mtl.specs.declared.ruling.Ruling.{Ruling}
 use Rattle.writer.specs.Choice.{cell_in}
 use Rattle.writer.proofs.Puts.{back_room, wrote_both, front_room}
-use Rattle.writer.proofs.Stepping.{Next-to, by_way, by_not}
+use Rattle.writer.proofs.Stepping.{NextTo, by_way, by_not}
 use Rattle.writer.proofs.Joined.{all_more, all_room}
 
 all_at : (P : Claim → Type 0) (cs : List Claim) (n : ℕ) (d : Claim) → AllOf P cs → n < length cs → P (get_or cs n d)
@@ -48,7 +48,7 @@ module _ (T : Rules) (R : List Row) (plan : List ℕ) (c : Claim) (w : Writable 
   is = (by_way T R plan c w v t).1
 
   pub next_kid : (n : ℕ) (d : Claim) → n < length (kids_of c.ruling v) → d ≡ get_or (kids_of c.ruling v) n (claim 0 0 c.ruling) → Writable T R plan d × (d.line < c.line)
-  next_kid n d h e = subst (Next-to T R plan c.line) (sym e) (all_at (Next-to T R plan c.line) (kids_of c.ruling v) n (claim 0 0 c.ruling) (by_way T R plan c w v t).0 h)
+  next_kid n d h e = subst (NextTo T R plan c.line) (sym e) (all_at (NextTo T R plan c.line) (kids_of c.ruling v) n (claim 0 0 c.ruling) (by_way T R plan c w v t).0 h)
 
   module _ (o p : List ℕ) (at end n : ℕ) (room : at + length (cert_bytes T R c) ≤ length o)
       (so_far : Wrote o p at end (all_bytes T R (take n (kids_of c.ruling v)))) where
