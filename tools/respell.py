@@ -3,6 +3,8 @@
 
 usage: python3 tools/respell.py [FOLDER]      FOLDER: the repository, else the one that this script lies in
 
+It was run once, after the kit's own script: on a tree that it has turned it would turn right names again.
+
 In a .antt file every word of the table is turned; in a .rt file only words in camel case, which the code itself has none of, outside strings;
 a row for one crate goes before a row for all. Names that a file takes from the library stay."""
 import os
