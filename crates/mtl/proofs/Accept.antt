@@ -1,4 +1,5 @@
 use Rattle.std.proofs.Common.{◌≡◌, ℕ, suc, ◌-◌, ◌<◌, ◌≤◌, Bool, true, false, cond, ◌&&◌, T as Yes, eqb, leb, ◌↔◌, List, [], ◌∷◌, ◌++◌, length, take, drop, Some, None, Option, sym, refl, ap, ◌∙◌, subst, ap₂, arith, le→leb, eqb→eq, ltb→lt, lt→ltb, leb→le, length-append, length-drop, take-append-drop}
+use Rattle.std.proofs.Math.Seq.{drop-append_seam, take-append_seam}
 use lib.Dec.{eqb_refl}
 use Rattle.mtl.specs.Certificates.{node_of, Cert}
 use Rattle.mtl.specs.Checking.{form_at, alike, all_alike, each_alike, same_rows, count_fits, lines_fit, Went, stops, goes, went, node_questions, node_by, node_step, Verdict, accepted, refused, ended, checks}
@@ -130,7 +131,7 @@ look P (f ∷ fs) n r (there h) = let k = look P fs n r.1 h in record { which = 
 
 looked_in : (P : Form → Type 0) (fs : List Form) (n : ℕ) (f : Form) → AllOf P fs → form_at fs n ≡ Some f → (f.number ≡ n) × P f
 unfolding form_at
-looked_in P [] n f a e = let z : ◌≡◌ {A = ℕ} 0 1 = cc in absurd (omega arith)
+looked_in P [] n f a e = cc
 looked_in P (g ∷ gs) n f a e = go (eqb g.number n) (eqb→eq _ _) (looked_in P gs n f a.1) e
   where
     go : (b : Bool) → (Yes b → g.number ≡ n) → (form_at gs n ≡ Some f → (f.number ≡ n) × P f) → cond b (Some g) (form_at gs n) ≡ Some f → (f.number ≡ n) × P f
@@ -139,15 +140,7 @@ looked_in P (g ∷ gs) n f a e = go (eqb g.number n) (eqb→eq _ _) (looked_in P
 
 went_goes : (o : Option ℕ) (s t : List Claim) → went o s ≡ goes t → (o ≡ None) × (s ≡ t)
 went_goes None s t e = (refl, (cc))
-went_goes (Some q) s t e = let z : ◌≡◌ {A = ℕ} 0 1 = cc in absurd (omega arith)
-
-drop_front : {A : Type 0} (xs ys : List A) → drop (length xs) (xs ++ ys) ≡ ys
-drop_front [] ys = refl
-drop_front (x ∷ xs) ys = drop_front xs ys
-
-take_front : {A : Type 0} (xs ys : List A) → take (length xs) (xs ++ ys) ≡ xs
-take_front [] ys = refl
-take_front (x ∷ xs) ys = ap (◌∷◌ x) (take_front xs ys)
+went_goes (Some q) s t e = cc
 
 module _ (T : Rules) (R : List Row) where
   pub record Took (s : List Claim) (d : Node) (t : List Claim) : Type 0 where
@@ -246,10 +239,10 @@ module _ (T : Rules) (R : List Row) where
       front = omega (arith, length-append s kids)
 
       dropped : drop (length (s ++ kids) - length kids) (s ++ kids) ≡ kids
-      dropped = ap (λ x. drop x (s ++ kids)) front ∙ drop_front s kids
+      dropped = ap (λ x. drop x (s ++ kids)) front ∙ drop-append_seam s kids
 
       taken : take (length (s ++ kids) - length kids) (s ++ kids) ≡ s
-      taken = ap (λ x. take x (s ++ kids)) front ∙ take_front s kids
+      taken = ap (λ x. take x (s ++ kids)) front ∙ take-append_seam s kids
 
   leaves_check : {s t : List Claim} {ns : List Node} (k : ℕ) (c : Claim) → Leaves T R s ns t → t ≡ c ∷ [] → checks T R s ns k ≡ accepted c
   unfolding checks
@@ -262,14 +255,14 @@ module _ (T : Rules) (R : List Row) where
 
   check_leaves : (s : List Claim) (ns : List Node) (k : ℕ) (c : Claim) → checks T R s ns k ≡ accepted c → Leaves T R s ns (c ∷ [])
   unfolding checks
-  check_leaves [] [] k c e = let z : ◌≡◌ {A = ℕ} 0 1 = cc in absurd (omega arith)
+  check_leaves [] [] k c e = cc
   check_leaves (x ∷ []) [] k c e = let q : x ≡ c = cc in subst (λ y. Leaves T R (x ∷ []) [] (y ∷ [])) q stop
-  check_leaves (x ∷ y ∷ s) [] k c e = let z : ◌≡◌ {A = ℕ} 0 1 = cc in absurd (omega arith)
+  check_leaves (x ∷ y ∷ s) [] k c e = cc
   check_leaves s (d ∷ ns) k c e = go (node_step T R s d) refl (λ t. check_leaves t ns (suc k) c) e
     where
       go : (w : Went) → node_step T R s d ≡ w → ((t : List Claim) → checks T R t ns (suc k) ≡ accepted c → Leaves T R t ns (c ∷ [])) →
           (elim w as (λ _. Verdict) [ stops q ↦ refused q k | goes t ↦ checks T R t ns (suc k) ]) ≡ accepted c → Leaves T R s (d ∷ ns) (c ∷ [])
-      go (stops q) ew ih e = let z : ◌≡◌ {A = ℕ} 0 1 = cc in absurd (omega arith)
+      go (stops q) ew ih e = cc
       go (goes t) ew ih e =
           let k = took s d t ew in
           subst (λ x. Leaves T R x (d ∷ ns) (c ∷ [])) k.stack_was

@@ -1,5 +1,5 @@
 -- Questions, and the first that is answered no.
-use Rattle.std.proofs.Common.{◌≡◌, ℕ, Bool, true, false, cond, T as Yes, ◌⊎◌, List, [], ◌∷◌, Some, None, refl, ◌∙◌, inl, inr, arith}
+use Rattle.std.proofs.Common.{◌≡◌, ℕ, Bool, true, false, cond, T as Yes, ◌⊎◌, List, [], ◌∷◌, Some, None, refl, ◌∙◌, inl, inr}
 use Rattle.mtl.specs.Questions.{Question, first_no, FirstNot}
 use Rattle.mtl.specs.Lists.{AllOf}
 
@@ -18,7 +18,7 @@ yes_all (q ∷ qs) e = go q.1 (yes_all qs) e
   where
     go : (b : Bool) → (first_no qs ≡ None → AllOf (λ (q : Question). Yes q.1) qs) → cond b (first_no qs) (Some q.0) ≡ None → Yes b × AllOf (λ (q : Question). Yes q.1) qs
     go true f e = (tt, f e)
-    go false f e = let z : ◌≡◌ {A = ℕ} 0 1 = cc in absurd (omega arith)
+    go false f e = cc
 
 -- each question, and the statement that it tests as far as those before it hold
 abbrev pub Test : List Question → List (ℕ × Type 0) → Type 0
@@ -28,7 +28,7 @@ Test (q ∷ qs) [] = ⊥
 Test (q ∷ qs) (p ∷ ps) = (p.0 ≡ q.0) × (Yes q.1 → p.1) × (p.1 → Yes q.1) × (p.1 → Test qs ps)
 
 pub first_not : (qs : List Question) (ps : List (ℕ × Type 0)) (n : ℕ) → Test qs ps → first_no qs ≡ Some n → FirstNot ps n
-first_not [] [] n h e = let z : ◌≡◌ {A = ℕ} 0 1 = cc in absurd (omega arith)
+first_not [] [] n h e = cc
 first_not [] (p ∷ ps) n h e = absurd h
 first_not (q ∷ qs) [] n h e = absurd h
 first_not (q ∷ qs) (p ∷ ps) n h e = go q.1 h.1 h.2 (λ y. first_not qs ps n (h.3 y)) e

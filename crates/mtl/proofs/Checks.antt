@@ -1,4 +1,5 @@
 use Rattle.std.proofs.Common.{◌≡◌, ℕ, ◌+◌, ◌-◌, ◌<◌, ◌&&◌, T as Yes, ltb, leb, List, length, sym, refl, subst, arith, le→leb, eqb→eq, ltb→lt, lt→ltb, leb→le, T_not}
+use Rattle.std.proofs.Math.Facts.{yes_eqb}
 use lib.Dec.{not_T}
 use Rattle.mtl.specs.Claims.{Claim, Ruling, held, broken, first_row}
 use Rattle.mtl.specs.Follows.{Follows, rule_1, rule_2, rule_3, rule_4, rule_5, rule_6, rule_7, rule_8, rule_9, rule_10, rule_11, rule_12, rule_13, rule_14, rule_15, rule_16, rule_17, rule_18, rule_19, rule_20, rule_21, rule_22, rule_23, rule_24, rule_25, rule_26, LineIs}
@@ -7,7 +8,7 @@ use Rattle.mtl.specs.Lines.{Line, mark, neg, and, or, previous, next, since, unt
 use Rattle.mtl.specs.Rows.{Row, row_at, time_at}
 use Rattle.mtl.specs.Windows.{up_to}
 use Rattle.mtl.specs.Lists.{AllOf, AnyOf, here, there}
-use Rattle.mtl.proofs.Tests.{stands_test, test_stands, inside_test, up_to_test, test_inside, test_up_to, past_test, test_past, eq_test, both, fst_of, snd_of}
+use Rattle.mtl.proofs.Tests.{stands_test, test_stands, inside_test, up_to_test, test_inside, test_up_to, past_test, test_past, both, fst_of, snd_of}
 
 module _ (T : Rules) (R : List Row) where
   -- what a rule at a line and a row says of children that the check has found
@@ -114,7 +115,7 @@ module _ (T : Rules) (R : List Row) where
   formed (rule_14 {n = n} {i = i} {l = l} {w = w} at lt pos h) =
       put n i broken (previous w l) at lt (there (there (there (here (ok _ refl refl refl (both _ _ (lt→ltb 0 i pos) (past_test w.to _ h)))))))
   formed (rule_15 {n = n} {i = i} {l = l} {w = w} at lt z) =
-      put n i broken (previous w l) at lt (there (there (there (there (here (ok _ refl refl refl (eq_test i 0 z)))))))
+      put n i broken (previous w l) at lt (there (there (there (there (here (ok _ refl refl refl (yes_eqb z)))))))
   formed (rule_16 {n = n} {i = i} {l = l} {w = w} at lt ins) =
       put n i held (next w l) at (omega arith) (here (ok _ refl refl refl (both _ _ (lt→ltb _ _ lt) (inside_test w _ ins))))
   formed (rule_17 {n = n} {i = i} {l = l} {w = w} at lt) = put n i broken (next w l) at lt (there (here (ok _ refl refl refl tt)))

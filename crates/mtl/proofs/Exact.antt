@@ -9,8 +9,9 @@ use Rattle.mtl.specs.Bytes.{nodes, bytes}
 use Rattle.mtl.specs.Checking.{Went, stops, goes, went, questions_at, node_step, Verdict, accepted, refused, checks, check_questions, unless, check_answer}
 use Rattle.mtl.specs.Waiting.{Leaves, stop, take as takes, Stops, at_node, at_end}
 use Rattle.mtl.specs.Laws.{IsCertificate, RefusedBy, CheckSays}
-use Rattle.mtl.proofs.Tests.{both, snd_of, eq_test}
-use Rattle.mtl.proofs.Lists.{append_none}
+use Rattle.mtl.proofs.Tests.{both, snd_of}
+use Rattle.std.proofs.Math.Facts.{yes_eqb}
+use Rattle.std.proofs.lemmas.List.{append-nil}
 use Rattle.mtl.proofs.Asked.{all_yes, yes_all}
 use Rattle.mtl.proofs.Machine.{runs_append}
 use Rattle.mtl.proofs.Accept.{check_is, took, Took}
@@ -24,7 +25,7 @@ refused_at : (q m q' m' : ℕ) → refused q m ≡ refused q' m' → (q ≡ q') 
 refused_at q m q' m' e = ((cc), (cc))
 
 went_stops : (o : Option ℕ) (s : List Claim) (q : ℕ) → went o s ≡ stops q → o ≡ Some q
-went_stops None s q e = let z : ◌≡◌ {A = ℕ} 0 1 = cc in absurd (omega arith)
+went_stops None s q e = cc
 went_stops (Some p) s q e = cc
 
 module _ (T : Rules) (R : List Row) where
@@ -38,7 +39,7 @@ module _ (T : Rules) (R : List Row) where
       let m : length bs ≤ 24576 = omega arith in
       let r : length bs / 6 ≤ k = omega arith in
       ap (λ x. unless x (checks T R [] (nodes bs) 0))
-      (all_yes (check_questions (length bs) k) (both _ _ (lt→ltb _ _ s) (eq_test _ _ w), (le→leb _ _ m, (le→leb _ _ r, tt)))) ∙
+      (all_yes (check_questions (length bs) k) (both _ _ (lt→ltb _ _ s) (yes_eqb w), (le→leb _ _ m, (le→leb _ _ r, tt)))) ∙
       (check_is T R (nodes bs) c).1 cert
 
   pub check_bytes : (c : Claim) (ns : List Node) (k : ℕ) → Cert T R c ns → length ns ≤ 4096 → length ns ≤ k → check_answer T R (bytes ns) k ≡ accepted c
@@ -54,7 +55,7 @@ module _ (T : Rules) (R : List Row) where
   accepted_certificate c bs k e = go (first_no (check_questions (length bs) k)) refl e
     where
       go : (o : Option ℕ) → first_no (check_questions (length bs) k) ≡ o → unless o (checks T R [] (nodes bs) 0) ≡ accepted c → IsCertificate T R bs c
-      go (Some q) w e = let z : ◌≡◌ {A = ℕ} 0 1 = cc in absurd (omega arith)
+      go (Some q) w e = cc
       go None w e =
           let ys = yes_all (check_questions (length bs) k) w in
           let whole = length_whole bs (eqb→eq _ _ (snd_of (ltb 0 (length bs)) _ ys.0)) in
@@ -74,11 +75,11 @@ module _ (T : Rules) (R : List Row) where
   unfolding checks node_step
   refused_stops before [] [] k q m l n e =
       let z = refused_at 20 k q m e in
-      at_end [] (sym z.1 ∙ n ∙ ap length (sym (append_none before))) (subst (λ x. Leaves T R [] x []) (sym (append_none before)) l) (sym z.0) (λ h. omega arith)
-  refused_stops before (c ∷ []) [] k q m l n e = let z : ◌≡◌ {A = ℕ} 0 1 = cc in absurd (omega arith)
+      at_end [] (sym z.1 ∙ n ∙ ap length (sym (append-nil before))) (subst (λ x. Leaves T R [] x []) (sym (append-nil before)) l) (sym z.0) (λ h. omega arith)
+  refused_stops before (c ∷ []) [] k q m l n e = cc
   refused_stops before (c ∷ d ∷ s) [] k q m l n e =
       let z = refused_at 20 k q m e in
-      at_end (c ∷ d ∷ s) (sym z.1 ∙ n ∙ ap length (sym (append_none before))) (subst (λ x. Leaves T R [] x (c ∷ d ∷ s)) (sym (append_none before)) l) (sym z.0) (λ h. omega arith)
+      at_end (c ∷ d ∷ s) (sym z.1 ∙ n ∙ ap length (sym (append-nil before))) (subst (λ x. Leaves T R [] x (c ∷ d ∷ s)) (sym (append-nil before)) l) (sym z.0) (λ h. omega arith)
   refused_stops before s (d ∷ ns) k q m l n e = go (node_step T R s d) refl (λ t. refused_stops (before ++ (d ∷ [])) t ns (suc k) q m) e
     where
       go : (w : Went) → node_step T R s d ≡ w →
@@ -104,4 +105,4 @@ module _ (T : Rules) (R : List Row) where
       let is = accepted_certificate c bs k e in
       (is, λ ρ h. sound T wf R ρ h is.2)
   check_says wf bs k (refused q m) e =
-      (λ room c is. let a = accepts_certificate c bs k is room in let z : ◌≡◌ {A = ℕ} 0 1 = cc in omega arith, refused_by bs k q m e)
+      (λ room c is. let a = accepts_certificate c bs k is room in cc, refused_by bs k q m e)

@@ -20,9 +20,6 @@ unfolding guard
 all_only P true s h = (h tt, tt)
 all_only P false s h = tt
 
-all_one : (P : Step → Type 0) (s : Step) → P s → AllOf P (s ∷ [])
-all_one P s h = (h, tt)
-
 pub any_only : (P : Step → Type 0) (b : Bool) (s : Step) → Yes b → P s → AnyOf P (guard b (s ∷ []))
 unfolding guard
 any_only P true s t h = here h

@@ -1,5 +1,5 @@
 -- Lists: what holds of each and of some element.
-use Rattle.std.proofs.Common.{◌≡◌, ℕ, zero, suc, ◌+◌, ◌-◌, ◌<◌, ◌≤◌, Bool, true, false, cond, T, List, [], ◌∷◌, ◌++◌, map, length, get_or, refl, ap, subst, arith}
+use Rattle.std.proofs.Common.{◌≡◌, ℕ, zero, suc, ◌+◌, ◌-◌, ◌<◌, ◌≤◌, Bool, true, false, cond, T, List, [], ◌∷◌, ◌++◌, map, length, get_or, subst, arith}
 use native.Mathlib.Decide.{ℕ_discrete}
 use Rattle.mtl.specs.Ranges.{run, range, keep}
 use Rattle.mtl.specs.Lists.{AllOf, AnyOf, here, there}
@@ -53,10 +53,6 @@ pub all_weaken : {A : Type 0} (P Q : A → Type 0) (xs : List A) → ((x : A) �
 all_weaken P Q [] f h = tt
 all_weaken P Q (x ∷ xs) f h = (f x h.0, all_weaken P Q xs f h.1)
 
-pub append_none : {A : Type 0} (xs : List A) → xs ++ [] ≡ xs
-append_none [] = refl
-append_none (x ∷ xs) = ap (◌∷◌ x) (append_none xs)
-
 pub any_left : {A : Type 0} (P : A → Type 0) (xs ys : List A) → AnyOf P xs → AnyOf P (xs ++ ys)
 any_left P [] ys h = elim h [ ]
 any_left P (x ∷ xs) ys (here h) = here h
@@ -69,6 +65,10 @@ any_right P (x ∷ xs) ys h = there (any_right P xs ys h)
 pub all_both : {A : Type 0} (P : A → Type 0) (xs ys : List A) → AllOf P xs → AllOf P ys → AllOf P (xs ++ ys)
 all_both P [] ys h g = g
 all_both P (x ∷ xs) ys h g = (h.0, all_both P xs ys h.1 g)
+
+pub all_zip : {A : Type 0} (P Q : A → Type 0) (xs : List A) → AllOf P xs → AllOf Q xs → AllOf (λ x. P x × Q x) xs
+all_zip P Q [] h k = tt
+all_zip P Q (x ∷ xs) h k = ((h.0, k.0), all_zip P Q xs h.1 k.1)
 
 -- an element that is one of a list stands at some place, and what holds of each holds of it
 pub any_place : {A : Type 0} (x : A) (xs : List A) → AnyOf (λ y. y ≡ x) xs → (k : ℕ) × (k < length xs) × (get_or xs k x ≡ x)

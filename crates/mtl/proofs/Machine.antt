@@ -4,7 +4,7 @@ use Rattle.mtl.specs.Claims.{Claim, Node}
 use Rattle.mtl.specs.Lines.{Rules}
 use Rattle.mtl.specs.Rows.{Row}
 use Rattle.mtl.specs.Waiting.{Leaves, stop, take}
-use Rattle.mtl.proofs.Lists.{append_none}
+use Rattle.std.proofs.lemmas.List.{append-nil}
 
 module _ (T : Rules) (R : List Row) where
   pub runs_append : {s t u : List Claim} {ns ms : List Node} → Leaves T R s ns t → Leaves T R t ms u → Leaves T R s (ns ++ ms) u
@@ -16,7 +16,7 @@ module _ (T : Rules) (R : List Row) where
     cert_runs (node f cs) s = runs_append (certs_run cs s) (take s f stop)
 
     certs_run : {cs : List Claim} {ns : List Node} → Certs T R cs ns → (s : List Claim) → Leaves T R s ns (s ++ cs)
-    certs_run none s = subst (λ t. Leaves T R s [] t) (sym (append_none s)) stop
+    certs_run none s = subst (λ t. Leaves T R s [] t) (sym (append-nil s)) stop
     certs_run (more {c = c} {cs = cs} {ms = ms} d ds) s =
         runs_append (cert_runs d s) (subst (λ t. Leaves T R (s ++ (c ∷ [])) ms t) (append_assoc s (c ∷ []) cs) (certs_run ds (s ++ (c ∷ []))))
 
@@ -45,14 +45,14 @@ module _ (T : Rules) (R : List Row) where
       subst (λ x. Certs T R (c ∷ (cs ++ t)) x) (sym (append_assoc a b ms)) (more d (join ds q))
 
   one : {c : Claim} {ns : List Node} → Cert T R c ns → Certs T R (c ∷ []) ns
-  one {c = c} {ns = ns} d = subst (λ x. Certs T R (c ∷ []) x) (append_none ns) (more d none)
+  one {c = c} {ns = ns} d = subst (λ x. Certs T R (c ∷ []) x) (append-nil ns) (more d none)
 
   only : {c : Claim} {ns : List Node} → Certs T R (c ∷ []) ns → Cert T R c ns
-  only {c = c} (more {ns = a} d none) = subst (λ x. Cert T R c x) (sym (append_none a)) d
+  only {c = c} (more {ns = a} d none) = subst (λ x. Cert T R c x) (sym (append-nil a)) d
 
   -- what waits, with the nodes read so far
   runs_certs : {s t : List Claim} {ns ms : List Node} → Certs T R s ms → Leaves T R s ns t → Certs T R t (ms ++ ns)
-  runs_certs {t = t} {ms = ms} h stop = subst (λ x. Certs T R t x) (sym (append_none ms)) h
+  runs_certs {t = t} {ms = ms} h stop = subst (λ x. Certs T R t x) (sym (append-nil ms)) h
   runs_certs {t = t} {ms = ms} h (take s {kids = kids} {c = c} {rule = rule} {ns = ns} f p) =
       let r = split s h in
       let z = node_of rule c kids ∷ [] in

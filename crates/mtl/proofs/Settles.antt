@@ -62,10 +62,10 @@ module _ (T : Rules) (R : List Row) (wf : WellFormed T) (up : NeverFalls R) (n i
 
   answered : {A : Type 0} (o : Option ℕ) (a b : A) → answer o a ≡ Ok b → (o ≡ None) × (a ≡ b)
   answered None a b e = (refl, (cc))
-  answered (Some q) a b e = let z : ◌≡◌ {A = ℕ} 0 1 = cc in absurd (omega arith)
+  answered (Some q) a b e = cc
 
   refuses : {A : Type 0} (o : Option ℕ) (a : A) (q : ℕ) → answer o a ≡ Err q → o ≡ Some q
-  refuses None a q e = let z : ◌≡◌ {A = ℕ} 0 1 = cc in absurd (omega arith)
+  refuses None a q e = cc
   refuses (Some p) a q e = cc
 
   pub ruled : (s : Settled) (ls : Lengths) → settle_answer T R n i ls ≡ Ok s → Ruled T R n i s

@@ -39,9 +39,6 @@ module _ (T : Rules) (wf : WellFormed T) (R : List Row) (ρ : ℕ → Row) (c : 
   back : (P : ℕ → Type 0) (i j : ℕ) → i < length R → j < length R → P ((ρ i).time - (ρ j).time) → P (time_at R i - time_at R j)
   back P i j p q h = rw (time_is i p, time_is j q) h
 
-  True : Claim → Type 0
-  True = TrueIn T ρ
-
   step : (rule : ℕ) (d : Claim) (kids : List Claim) → Follows T R rule d kids → AllOf (TrueIn T ρ) kids → TrueIn T ρ d
   step _ _ _ (rule_1 {n = n} {i = i} {m = m} at in-log s) h = holds n i (mark m) at (rw (c.begins i in-log) s)
   step _ _ _ (rule_2 {n = n} {i = i} {m = m} at in-log s) h = fails n i (mark m) at (λ t. s (rw (c.begins i in-log) at t))

@@ -1,7 +1,7 @@
 -- Tests and the statements that they decide.
-use Rattle.std.proofs.Common.{◌≡◌, ℕ, ◌/◌, ◌%◌, ◌^◌, ◌≤◌, Bool, true, false, ◌&&◌, T as Yes, eqb, ltb, leb, ◌⊎◌, Some, None, Option, sym, subst, inl, inr, arith, le→leb, eqb→eq, ltb→lt, lt→ltb, leb→le}
+use Rattle.std.proofs.Common.{◌≡◌, ℕ, ◌/◌, ◌%◌, ◌^◌, ◌≤◌, Bool, true, false, ◌&&◌, T as Yes, ltb, leb, ◌⊎◌, Some, None, Option, sym, subst, inl, inr, arith, le→leb, eqb→eq, ltb→lt, lt→ltb, leb→le}
 use native.Mathlib.Decide.{dec_le}
-use lib.Dec.{eqb_refl}
+use Rattle.std.proofs.Math.Facts.{yes_eqb}
 use Rattle.mtl.specs.Rows.{Row, Stands, stands}
 use Rattle.mtl.specs.Lines.{Window}
 use Rattle.mtl.specs.Windows.{UpTo, Past, Inside, up_to, past, inside}
@@ -24,11 +24,8 @@ pub snd_of : (a b : Bool) → Yes (a && b) → Yes b
 snd_of true b h = h
 snd_of false b h = absurd h
 
-pub eq_test : (m n : ℕ) → m ≡ n → Yes (eqb m n)
-eq_test m n e = subst (λ x. Yes (eqb m x)) e (eqb_refl m)
-
 pub stands_test : (r : Row) (m : ℕ) → Stands r m → Yes (stands r m)
-stands_test r m h = both (ltb m 32) _ (lt→ltb m 32 h.0) (eq_test ((r.marks / 2 ^ m) % 2) 1 h.1)
+stands_test r m h = both (ltb m 32) _ (lt→ltb m 32 h.0) (yes_eqb h.1)
 
 pub test_stands : (r : Row) (m : ℕ) → Yes (stands r m) → Stands r m
 test_stands r m h = (ltb→lt m 32 (fst_of _ _ h), eqb→eq ((r.marks / 2 ^ m) % 2) 1 (snd_of (ltb m 32) _ h))

@@ -11,7 +11,7 @@ use Rattle.mtl.specs.Rows.{Row}
 use Rattle.mtl.specs.Shortest.{chained, shorter, of_all, of_any, written, certificate, Best}
 use Rattle.mtl.proofs.Accept.{rises}
 use Rattle.mtl.specs.Lists.{AllOf, AnyOf, here, there}
-use Rattle.mtl.proofs.Lists.{all_weaken}
+use Rattle.mtl.proofs.Lists.{all_weaken, all_zip}
 use Rattle.mtl.proofs.Shortest.{best_written, lower, best_kids}
 use Rattle.mtl.proofs.Ways.{found, Before, Sorted, ahead, sorted_guard, ways_sorted, keyed}
 use Rattle.mtl.proofs.Ways.{good as steps_follow}
@@ -20,13 +20,6 @@ at_any : {A : Type 0} (P : A → Type 0) (s : A) (xs : List A) → AnyOf (λ t. 
 at_any P s [] h a = elim h [ ]
 at_any P s (x ∷ xs) (here e) a = subst P e a.0
 at_any P s (x ∷ xs) (there h) a = at_any P s xs h a.1
-
-all_zip : {A : Type 0} (P Q : A → Type 0) (xs : List A) → AllOf P xs → AllOf Q xs → AllOf (λ x. P x × Q x) xs
-all_zip P Q [] h k = tt
-all_zip P Q (x ∷ xs) h k = ((h.0, k.0), all_zip P Q xs h.1 k.1)
-
-some_none : {A : Type 0} (o : Option A) (a : A) → o ≡ Some a → o ≡ None → ⊥
-some_none o a e f = let z : ◌≡◌ {A = ℕ} 0 1 = cc in omega arith
 
 some_same : {A : Type 0} (o : Option A) (a b : A) → o ≡ Some a → o ≡ Some b → a ≡ b
 some_same o a b e f = cc
@@ -55,16 +48,16 @@ none_any f c (s ∷ ss) e = go (of_all f s.kids) refl (of_any f c ss) refl (none
         (of_any f c ss ≡ None → AllOf (λ (t : Step). of_all f t.kids ≡ None) ss) → shorter (chained o (Some last)) p ≡ None →
         (of_all f s.kids ≡ None) × AllOf (λ (t : Step). of_all f t.kids ≡ None) ss
     go None eo p ep ih e = (eo, ih (ep ∙ e))
-    go (Some a) eo None ep ih e = absurd (some_none (Some (a ++ last)) _ refl e)
+    go (Some a) eo None ep ih e = cc
     go (Some a) eo (Some b) ep ih e = absurd (at (leb (length (a ++ last)) (length b)) e)
       where
         at : (t : Bool) → cond t (Some (a ++ last)) (Some b) ≡ None → ⊥
-        at true e = some_none (Some (a ++ last)) _ refl e
-        at false e = some_none (Some b) _ refl e
+        at true e = cc
+        at false e = cc
 
 pick : (f : Claim → Option (List Node)) (c : Claim) (ss : List Step) → Sorted ss → (ns : List Node) → of_any f c ss ≡ Some ns → Pick f c ss ns
 unfolding of_any
-pick f c [] so ns e = absurd (some_none None ns e refl)
+pick f c [] so ns e = cc
 pick f c (s ∷ ss) (ahead al so) ns e = go (of_all f s.kids) refl (of_any f c ss) refl (pick f c ss so) e
   where
     last : List Node
@@ -83,7 +76,7 @@ pick f c (s ∷ ss) (ahead al so) ns e = go (of_all f s.kids) refl (of_any f c s
           among = there r.among;
           got = r.got;
           is = r.is;
-          first = (λ us eu. absurd (some_none _ us eu eo), r.first);
+          first = (λ us eu. (cc), r.first);
         }
     go (Some a) eo None ep ih e =
         record {
@@ -92,7 +85,7 @@ pick f c (s ∷ ss) (ahead al so) ns e = go (of_all f s.kids) refl (of_any f c s
           among = here refl;
           got = eo;
           is = some_same _ _ _ refl e;
-          first = (own a eo, all_weaken _ _ ss (λ t z us eu. absurd (some_none _ us eu z)) (none_any f c ss ep));
+          first = (own a eo, all_weaken _ _ ss (λ t z us eu. (cc)) (none_any f c ss ep));
         }
     go (Some a) eo (Some b) ep ih e = at (leb (length (a ++ last)) (length b)) (leb→le _ _) (nleb→lt _ _) e
       where
@@ -161,8 +154,8 @@ module _ (T : Rules) (R : List Row) where
     where
       go : (o : Option (List Node)) → f c ≡ o → (p : Option (List Node)) → of_all f cs ≡ p →
           ((ms : List Node) → of_all f cs ≡ Some ms → ChosenAll T R cs ms) → chained o p ≡ Some ns → ChosenAll T R (c ∷ cs) ns
-      go None eo p ep ih e = absurd (some_none None ns e refl)
-      go (Some a) eo None ep ih e = absurd (some_none None ns e refl)
+      go None eo p ep ih e = cc
+      go (Some a) eo None ep ih e = cc
       go (Some a) eo (Some b) ep ih e = subst (λ x. ChosenAll T R (c ∷ cs) x) (some_same _ (a ++ b) ns refl e) (chosen_more (h.0 a eo) (ih b ep))
 
   pub chosen_written : WellFormed T → (d : ℕ) (c : Claim) → c.line < d → (ns : List Node) → written T R d c ≡ Some ns → Chosen T R c ns

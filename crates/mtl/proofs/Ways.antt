@@ -1,7 +1,7 @@
 use Rattle.std.proofs.Common.{◌≡◌, ℕ, zero, suc, ◌+◌, ◌<◌, ◌≤◌, Bool, true, false, ◌&&◌, T as Yes, ltb, leb, ◌⊎◌, List, [], ◌∷◌, ◌++◌, length, sym, refl, ap, ◌∙◌, subst, ap₂, inl, inr, arith, ltb→lt, lt→ltb, leb→le}
 use Rattle.mtl.specs.Claims.{Claim, Ruling, first_row, same_ruling}
 use Rattle.mtl.specs.Follows.{Follows}
-use Rattle.mtl.specs.Forms.{Step, by, guard, for_each, Form, forms, ways_of, ways_in, steps}
+use Rattle.mtl.specs.Forms.{Shape, Step, by, guard, for_each, Form, form, forms, ways_of, ways_in, steps}
 use Rattle.mtl.specs.Lines.{Line, mark, neg, and, or, previous, next, since, until, Rules, line_at}
 use Rattle.mtl.specs.Ranges.{run}
 use Rattle.mtl.specs.Rows.{Row}
@@ -9,7 +9,7 @@ use Rattle.mtl.proofs.Accept.{ruling_same, ruling_refl, Rises}
 use Rattle.mtl.proofs.Checks.{Allows, allowed, Gives, formed}
 use Rattle.mtl.proofs.Listed.{any_guard, any_each, any_only, all_guard, all_each, all_only}
 use Rattle.mtl.specs.Lists.{AllOf, AnyOf, here, there}
-use Rattle.mtl.proofs.Lists.{any_left, any_right, all_both, all_weaken}
+use Rattle.mtl.proofs.Lists.{any_left, any_right, all_both, all_weaken, all_zip}
 use Rattle.mtl.proofs.Tests.{fst_of, snd_of}
 
 -- a step that stands before another in the list of steps
@@ -47,33 +47,33 @@ pub data Keyed (f : Form) : Type 0 where
   by_row : ((j : ℕ) → first_row (f.kids j) ≡ j) → ((j : ℕ) → Yes (f.meets j) → (f.first ≤ j) × (j < f.first + f.count)) → Keyed f
   alone : f.first ≡ 0 → f.count ≡ 1 → ((j : ℕ) → f.kids j ≡ f.kids 0) → ((j : ℕ) → f.meets j ≡ f.meets 0) → Keyed f
 
-only_way : {f : Form} → f.first ≡ 0 → f.count ≡ 1 → ((j : ℕ) → f.kids j ≡ f.kids 0) → ((j : ℕ) → f.meets j ≡ f.meets 0) → Keyed f
-only_way a b c d = alone a b c d
+stays : (n : ℕ) (r : Ruling) (s : Shape) (kids : List Claim) (met : Bool) → Keyed (form n r s 0 1 (λ _. kids) (λ _. met))
+stays n r s kids met = alone refl refl (λ _. refl) (λ _. refl)
 
 pub keyed : (R : List Row) (i : ℕ) (l : Line) → AllOf Keyed (forms R i l)
 unfolding forms
-keyed R i (mark m) = (alone refl refl (λ _. refl) (λ _. refl), (alone refl refl (λ _. refl) (λ _. refl), tt))
-keyed R i (neg l) = (alone refl refl (λ _. refl) (λ _. refl), (alone refl refl (λ _. refl) (λ _. refl), tt))
-keyed R i (and l r) = (alone refl refl (λ _. refl) (λ _. refl), (alone refl refl (λ _. refl) (λ _. refl), (alone refl refl (λ _. refl) (λ _. refl), tt)))
-keyed R i (or l r) = (alone refl refl (λ _. refl) (λ _. refl), (alone refl refl (λ _. refl) (λ _. refl), (alone refl refl (λ _. refl) (λ _. refl), tt)))
+keyed R i (mark m) = (stays _ _ _ _ _, (stays _ _ _ _ _, tt))
+keyed R i (neg l) = (stays _ _ _ _ _, (stays _ _ _ _ _, tt))
+keyed R i (and l r) = (stays _ _ _ _ _, (stays _ _ _ _ _, (stays _ _ _ _ _, tt)))
+keyed R i (or l r) = (stays _ _ _ _ _, (stays _ _ _ _ _, (stays _ _ _ _ _, tt)))
 keyed R i (previous w l) = (
-  alone refl refl (λ _. refl) (λ _. refl),
+  stays _ _ _ _ _,
   (
-    alone refl refl (λ _. refl) (λ _. refl),
+    stays _ _ _ _ _,
     (
-      alone refl refl (λ _. refl) (λ _. refl),
-      (alone refl refl (λ _. refl) (λ _. refl), (alone refl refl (λ _. refl) (λ _. refl), tt)),
+      stays _ _ _ _ _,
+      (stays _ _ _ _ _, (stays _ _ _ _ _, tt)),
     ),
   ),
 )
 keyed R i (next w l) =
-    (alone refl refl (λ _. refl) (λ _. refl), (alone refl refl (λ _. refl) (λ _. refl), (alone refl refl (λ _. refl) (λ _. refl), (alone refl refl (λ _. refl) (λ _. refl), tt))))
+    (stays _ _ _ _ _, (stays _ _ _ _ _, (stays _ _ _ _ _, (stays _ _ _ _ _, tt))))
 keyed R i (since w l r) = (
   by_row (λ j. refl) (λ j t. let h = leb→le j i (fst_of _ _ t) in omega arith),
   (
     by_row (λ j. refl)
         (λ j t. let a = fst_of (leb 1 j && leb j i) _ t in let p = leb→le 1 j (fst_of _ _ a) in let q = leb→le j i (snd_of (leb 1 j) _ a) in omega arith),
-    (alone refl refl (λ _. refl) (λ _. refl), (alone refl refl (λ _. refl) (λ _. refl), tt)),
+    (stays _ _ _ _ _, (stays _ _ _ _ _, tt)),
   ),
 )
 keyed R i (until w l r) = (
@@ -82,13 +82,9 @@ keyed R i (until w l r) = (
   (
     by_row (λ j. refl)
         (λ j t. let a = fst_of (leb i j && ltb j (length R)) _ t in let p = leb→le i j (fst_of _ _ a) in let q = ltb→lt j (length R) (snd_of (leb i j) _ a) in omega arith),
-    (alone refl refl (λ _. refl) (λ _. refl), tt),
+    (stays _ _ _ _ _, tt),
   ),
 )
-
-all_zip : {A : Type 0} (P Q : A → Type 0) (xs : List A) → AllOf P xs → AllOf Q xs → AllOf (λ x. P x × Q x) xs
-all_zip P Q [] h k = tt
-all_zip P Q (x ∷ xs) h k = ((h.0, k.0), all_zip P Q xs h.1 k.1)
 
 module _ (T : Rules) (R : List Row) where
   abbrev Good : ℕ → ℕ → Ruling → Step → Type 0

@@ -1,6 +1,7 @@
--- A certificate's nodes as bytes, six a node, the higher byte first.
-use Rattle.std.specs.Prelude.{ℕ, ◌+◌, ◌*◌, ◌/◌, ◌%◌, List, [], ◌∷◌}
+-- A certificate's nodes as bytes, six a node, and a row as eight bytes, the higher byte first.
+use Rattle.std.specs.Prelude.{ℕ, ◌+◌, ◌*◌, ◌/◌, ◌%◌, List, [], ◌∷◌, ◌++◌}
 use Rattle.mtl.specs.Claims.{Node}
+use Rattle.mtl.specs.Rows.{Row}
 
 abbrev pub node_at : ℕ → ℕ → ℕ → ℕ → ℕ → ℕ → Node
 node_at line rule row1 row0 count1 count0 =
@@ -20,3 +21,11 @@ nodes (a ∷ b ∷ c ∷ d ∷ e ∷ f ∷ rest) = node_at a b c d e f ∷ nodes
 abbrev pub bytes : List Node → List ℕ
 bytes [] = []
 bytes (d ∷ ds) = d.line ∷ d.rule ∷ d.row / 256 ∷ d.row % 256 ∷ d.count / 256 ∷ d.count % 256 ∷ bytes ds
+
+-- the four bytes of a number of 32 bits
+abbrev pub word_bytes : ℕ → List ℕ
+word_bytes n = n / 16777216 ∷ n / 65536 % 256 ∷ n / 256 % 256 ∷ n % 256 ∷ []
+
+-- a row's bytes in a sheet: its time, then its marks
+abbrev pub row_bytes : Row → List ℕ
+row_bytes r = word_bytes r.time ++ word_bytes r.marks

@@ -3,7 +3,7 @@ pub use Rattle.mtl.specs.declared.ruling.Ruling.{Ruling}
 pub use Rattle.mtl.specs.declared.ruling.Ruling.TheVariants.{Held as held, Broken as broken}
 pub use Rattle.mtl.specs.declared.ruling.Claim.{Claim}
 pub use Rattle.mtl.specs.declared.ruling.Node.{Node}
-use Rattle.std.specs.Prelude.{ℕ, Bool, true, false, List, [], ◌∷◌, map}
+use Rattle.std.specs.Prelude.{ℕ, Bool, true, false, List, [], ◌∷◌, map, codes}
 
 -- the ruling r of line n at row i
 abbrev pub claim : ℕ → ℕ → Ruling → Claim
@@ -29,3 +29,8 @@ same_ruling held held = true
 same_ruling held broken = false
 same_ruling broken held = false
 same_ruling broken broken = true
+
+-- how a ruling is printed
+abbrev pub ruling_word : Ruling → List ℕ
+ruling_word held = codes "held"
+ruling_word broken = codes "broken"
