@@ -59,13 +59,13 @@ dash_by w h = sym (cond-true _ _ _ h)
 
 pub now_dashed : (w : List ℕ) (b : ℕ) → is_none w ≡ true → b ≡ 45 → is_dash (w ++ b ∷ []) ≡ true
 now_dashed [] b h is = eq-eqb b 45 is
-now_dashed (c ∷ cs) b h is = let z : ◌≡◌ {A = ℕ} 0 1 = cc in absurd (omega arith)
+now_dashed (c ∷ cs) b h is = absurd (cc)
 
 -- not the one byte `-`
 pub now_inside : (st : State) (w : List ℕ) (b : ℕ) → agrees st w ≡ true → Open st → (st ≡ Fresh → b ≡ 45 → ⊥) → is_word (w ++ b ∷ []) ≡ true
 now_inside Fresh [] b h o off = ap not (ne_eqb b 45 (off refl))
-now_inside Inside [] b h o off = let z : ◌≡◌ {A = ℕ} 0 1 = cc in absurd (omega arith)
-now_inside Dashed [] b h o off = let z : ◌≡◌ {A = ℕ} 0 1 = cc in absurd (omega arith)
+now_inside Inside [] b h o off = absurd (cc)
+now_inside Dashed [] b h o off = absurd (cc)
 now_inside Ended [] b h o off = absurd o
 now_inside st (c ∷ []) b h o off = refl
 now_inside st (c ∷ d ∷ ds) b h o off = refl
@@ -86,7 +86,7 @@ pub when_fresh : (st : State) (b : ℕ) → st ≡ Fresh → (b ≡ 32 → ⊥) 
 when_fresh st b e space minus = record { is_open = subst Open (sym e) tt; space = space; minus = λ _. minus }
 
 pub when_inside : (st : State) (b : ℕ) → st ≡ Inside → (b ≡ 32 → ⊥) → Ordinary st b
-when_inside st b e space = record { is_open = subst Open (sym e) tt; space = space; minus = λ f _. let z : ◌≡◌ {A = ℕ} 0 1 = cc in omega arith }
+when_inside st b e space = record { is_open = subst Open (sym e) tt; space = space; minus = λ f _. cc }
 
 pub when_dashed : (st : State) (b : ℕ) → st ≡ Dashed → (b ≡ 32 → ⊥) → Ordinary st b
-when_dashed st b e space = record { is_open = subst Open (sym e) tt; space = space; minus = λ f _. let z : ◌≡◌ {A = ℕ} 0 1 = cc in omega arith }
+when_dashed st b e space = record { is_open = subst Open (sym e) tt; space = space; minus = λ f _. cc }

@@ -1,5 +1,6 @@
 -- How many fields are left.
-use Rattle.std.proofs.Common.{◌≡◌, ℕ, zero, suc, ◌+◌, ◌-◌, ◌<◌, Bool, true, false, not, ◌&&◌, List, [], ◌∷◌, length, sym, refl, ap, ◌∙◌, arith}
+use Rattle.std.proofs.Common.{◌≡◌, ℕ, zero, suc, ◌+◌, ◌-◌, ◌<◌, Bool, true, not, ◌&&◌, List, [], ◌∷◌, length, sym, refl, ap, ◌∙◌, arith}
+use Rattle.std.proofs.lemmas.Bool.{and_parts}
 use Rattle.std.proofs.lemmas.Bool.Decides.{nat_tests}
 use Rattle.fields.specs.States.{is_none}
 use Rattle.fields.specs.Tokens.{Said, is_field, is_end, said_by, first_of, rest_of}
@@ -29,12 +30,8 @@ shaped_turn count i fs rest t b less first left is =
     let more = ap (λ n. shaped n fs) k ∙ shaped_more (count - (i + 1)) fs in
     ap (λ x. x && shaped (count - (i + 1)) rest) (is ∙ ap is_field first) ∙ ap (λ r. is_field (first_of fs) && shaped (count - (i + 1)) r) left ∙ sym more
 
-and_both : (a b : Bool) → (a && b) ≡ true → b ≡ true
-and_both true b h = h
-and_both false b h = let z : ◌≡◌ {A = ℕ} 0 1 = cc in absurd (omega arith)
-
 pub shaped_length : (n : ℕ) (fs : List (List ℕ)) → shaped n fs ≡ true → length fs ≡ n
 shaped_length zero [] h = refl
-shaped_length zero (w ∷ ws) h = let z : ◌≡◌ {A = ℕ} 0 1 = cc in absurd (omega arith)
-shaped_length (suc n) [] h = let z : ◌≡◌ {A = ℕ} 0 1 = cc in absurd (omega arith)
-shaped_length (suc n) (w ∷ ws) h = ap suc (shaped_length n ws (and_both (not (is_none w)) (shaped n ws) h))
+shaped_length zero (w ∷ ws) h = absurd (cc)
+shaped_length (suc n) [] h = absurd (cc)
+shaped_length (suc n) (w ∷ ws) h = ap suc (shaped_length n ws (and_parts (not (is_none w)) (shaped n ws) h).1)

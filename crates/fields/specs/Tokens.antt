@@ -1,5 +1,5 @@
 -- What a token says, and the tokens of a line's fields.
-use Rattle.std.specs.Prelude.{ℕ, ◌+◌, Bool, true, false, cond, not, List, [], ◌∷◌}
+use Rattle.std.specs.Prelude.{ℕ, ◌+◌, Bool, true, false, cond, not, List, [], ◌∷◌, Some, None, Option}
 use Rattle.fields.specs.States.{is_dash, is_none}
 use Rattle.fields.specs.declared.token.Token.{Token}
 use Rattle.fields.specs.declared.token.Token.TheVariants.{Word, Dash, LineEnd}
@@ -14,6 +14,12 @@ abbrev pub said : Token → Said
 said (Word w) = word w.now
 said Dash = dash
 said LineEnd = line_end
+
+-- the bytes of a word
+abbrev pub word_in : Said → Option (List ℕ)
+word_in (word w) = Some w
+word_in dash = None
+word_in line_end = None
 
 -- a field that is one `-` is a dash, any other is a word
 abbrev pub said_by : List ℕ → Said

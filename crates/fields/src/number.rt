@@ -1,49 +1,40 @@
 // Numbers in a text: digits with no leading zero.
-ghost use Rattle.std.specs.Prelude.{◌≡◌};
-ghost use Rattle.fields.specs.Numbers.{leading_zero, number_to, number_at, time_at};
+ghost use Rattle.std.specs.Prelude.{◌≡◌, true, false, MatchOption};
+ghost use Rattle.std.specs.Char.{is_ascii_digit};
+ghost use Rattle.std.specs.List.{list_all};
+ghost use Rattle.fields.specs.Numbers.{numeral, number_at, time_at};
 
 use mtl::row::Time;
+use std::str;
 
-// Whether a field of several bytes begins with 0.
-fn has_leading_zero(field: &[u8]) -> bool
-    ensures { result ≡ leading_zero field.now }
+fn all_digits(bytes: &[u8]) -> bool
+    ensures { result ≡ list_all is_ascii_digit bytes.now }
 {
-    field.len() > 1 && field[0] == b'0'
+    bytes.iter().all(|b| b.is_ascii_digit())
 }
 
-// The number that a field writes, where it is at most `most`.
-fn number_to(field: &[u8], most: u64) -> Option<u64>
-    ensures { result ≡ number_to most field.now }
+// The text of a field of digits, one at least, with no leading zero.
+#[tactic(auto, using(crate::proofs::Numerals::digits_all, crate::proofs::Numerals::digits_text))]
+fn numeral(field: &[u8]) -> Option<&str>
+    ensures { MatchOption result (numeral field.now ≡ false) (λ text. (numeral field.now ≡ true) × (text.now ≡ field.now)) }
 {
-    if field.is_empty() || has_leading_zero(field) {
-        return None;
+    match field {
+        [] | [b'0', _, ..] => None,
+        _ if all_digits(field) => str::from_utf8(field).ok(),
+        _ => None,
     }
-    let mut n = 0u64;
-    for b in field {
-        if !b.is_ascii_digit() {
-            return None;
-        }
-        n = n.checked_mul(10)?.checked_add(u64::from(*b - b'0'))?;
-    }
-    if n <= most { Some(n) } else { None }
 }
 
 // A number of 32 bits.
 pub fn number(field: &[u8]) -> Option<u32>
     ensures { result ≡ number_at field.now }
 {
-    match number_to(field, u64::from(u32::MAX)) {
-        Some(n) => Some(n as u32),
-        None => None,
-    }
+    numeral(field)?.parse::<u32>().ok()
 }
 
-// A row's time.
+// A row's time. By its own type, which need not stay that of numbers; one function over every type that parses could promise only what they all do.
 pub fn time(field: &[u8]) -> Option<Time>
     ensures { result ≡ time_at field.now }
 {
-    match number_to(field, u64::from(Time::MAX)) {
-        Some(n) => Some(n as Time),
-        None => None,
-    }
+    numeral(field)?.parse::<Time>().ok()
 }

@@ -8,11 +8,7 @@ use crate::token::{Lexer, Token};
 fn is_field(token: Token<'_>) -> bool
     ensures { result ≡ is_field (said token.entry) }
 {
-    match token {
-        Token::Word(word) => !word.is_empty(),
-        Token::Dash => true,
-        Token::LineEnd => false,
-    }
+    !matches!(token, Token::Word([]) | Token::LineEnd)
 }
 
 fn is_end(token: Token<'_>) -> bool
@@ -22,11 +18,13 @@ fn is_end(token: Token<'_>) -> bool
 }
 
 // Whether a line has `count` fields, none of them empty.
+#[tactic(auto, using(crate::proofs::Shapes::shaped_turn, crate::proofs::Shapes::shaped_none))]
 pub fn has_fields(line: &[u8], count: usize) -> bool
     ensures { result ≡ shaped count (fields_of line.now) }
 {
     let mut lexer = Lexer::new(line, 0);
-    for _i in 0..count {
+    // A loop, and not `all`: of a lexer that a closure moves on it is not known where it stands afterwards.
+    for _ in 0..count {
         if !is_field(lexer.next().token) {
             return false;
         }

@@ -13,7 +13,23 @@ pub enum Token<'a> {
     Word(&'a [u8]),
     // The field `-`.
     Dash,
+    // No field is left. A token and no None of an Option: it has a line and a field too, and a reader sets it beside the other two in one match.
     LineEnd,
+}
+
+impl<'a> Token<'a> {
+    ghost use Rattle.std.specs.Prelude.{MatchOption};
+    ghost use Rattle.fields.specs.Tokens.{said, word_in};
+
+    // The field's bytes, where it is a word.
+    pub fn word(self) -> Option<&'a [u8]>
+        ensures { MatchOption result (word_in (said self.entry) ≡ None) (λ w. word_in (said self.entry) ≡ Some w.now) }
+    {
+        match self {
+            Token::Word(word) => Some(word),
+            Token::Dash | Token::LineEnd => None,
+        }
+    }
 }
 
 // A token with its line and field, both from 1.
@@ -25,6 +41,7 @@ pub struct Placed<'a> {
 }
 
 // Cuts one line into its fields: `from` is where the field began, `at` the next byte, and `field` the field's number.
+// The lexer steps in place, so it keeps places in the text, a wanted form (docs/DECISIONS.md).
 #[derive(Drop)]
 pub struct Lexer<'a> {
     text: &'a [u8],

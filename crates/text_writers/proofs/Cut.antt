@@ -2,7 +2,8 @@
 use Rattle.std.proofs.Common.{◌≡◌, ℕ, suc, ◌+◌, ◌-◌, ◌<◌, ◌≤◌, Bool, true, false, ◌&&◌, eqb, leb, List, [], ◌∷◌, ◌++◌, map, length, get_or, None, Ok, sym, refl, ap, ◌∙◌, arith}
 use Rattle.std.specs.List.{prefix_len}
 use Rattle.std.proofs.lemmas.List.{append-nil, append_assoc, length-append, get_or-append_right}
-use Rattle.std.proofs.lemmas.Bool.{cond-true, cond-false, and_parts, and_from, eq-eqb, ne_eqb, le-ltb, le-leb, leb-true, or_right}
+use Rattle.std.proofs.lemmas.Bool.{cond-true, cond-false, and_parts, eq-eqb, le-ltb, le-leb}
+use Rattle.std.proofs.lemmas.Bool.Decides.{nat_tests}
 use Rattle.fields.specs.Bytes.{allowed, wrong_line}
 use Rattle.fields.specs.Cuts.{lines_on, lines_of, fields_on, fields_of, spaced}
 use Rattle.texts.specs.Lines.{parts_by, parts_of}
@@ -28,15 +29,13 @@ between [] = []
 between (w ∷ ws) = w ++ spaced ws
 
 not_space : (b : ℕ) → (leb 33 b && leb b 126) ≡ true → eqb b 32 ≡ false
-not_space b h = let p = and_parts (leb 33 b) (leb b 126) h in ne_eqb b 32 (λ e. omega (arith, leb-true 33 b p.0))
+not_space b h = grind (arith, nat_tests)
 
 not_end : (b : ℕ) → (leb 33 b && leb b 126) ≡ true → eqb b 10 ≡ false
-not_end b h = let p = and_parts (leb 33 b) (leb b 126) h in ne_eqb b 10 (λ e. omega (arith, leb-true 33 b p.0))
+not_end b h = grind (arith, nat_tests)
 
 clean_allowed : (b : ℕ) → (leb 33 b && leb b 126) ≡ true → allowed b ≡ true
-clean_allowed b h =
-    let p = and_parts (leb 33 b) (leb b 126) h in
-    or_right _ _ (and_from _ _ (le-leb 32 b (omega (arith, leb-true 33 b p.0))) p.1)
+clean_allowed b h = grind (arith, nat_tests)
 
 fields_pass : (w v rest : List ℕ) → clean v ≡ true → fields_on w (v ++ rest) ≡ fields_on (w ++ v) rest
 fields_pass w [] rest h = ap (λ x. fields_on x rest) (sym (append-nil w))

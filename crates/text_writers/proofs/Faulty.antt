@@ -21,6 +21,7 @@ use Rattle.texts.specs.declared.fault.TextFault.{TextFault}
 use Rattle.texts.specs.declared.fault.TextFault.TheVariants.{WrongForm}
 use Rattle.texts.specs.declared.fault.Told.{Told}
 use Rattle.fields.proofs.Shapes.{shaped_length}
+use Rattle.text_writers.proofs.Said.{of_six}
 use Rattle.text_writers.proofs.Variants.{some_same, err_same}
 
 -- the refusal tells line n, and by question 31 alone one of its m fields
@@ -54,13 +55,13 @@ faults P (Err d) f here on e h = subst P (err_same h) (here d refl)
 
 out_of_form : {X : Type 0} (P : TextFault → Type 0) (p : Spot) (o : Option X) → P (fault_at p) → (e : TextFault) → or_fault p o ≡ Err e → P e
 out_of_form P p None h e is = subst P (err_same is) h
-out_of_form P p (Some x) h e is = let z : ◌≡◌ {A = ℕ} 0 1 = cc in absurd (omega arith)
+out_of_form P p (Some x) h e is = absurd (cc)
 
 in_form_lem : {X : Type 0} (n m k : ℕ) (w : List ℕ) (o : Option X) → 1 ≤ k → k ≤ m → (e : TextFault) → or_fault (spot n k w) o ≡ Err e → InLine n m e
 in_form_lem n m k w o low high = out_of_form (InLine n m) (spot n k w) o (wrong n m k low high)
 
 ok_err : {A B : Type 0} {P : Type 0} (a : A) (e : B) → ◌≡◌ {A = Result A B} (Ok a) (Err e) → P
-ok_err a e h = let z : ◌≡◌ {A = ℕ} 0 1 = cc in absurd (omega arith)
+ok_err a e h = absurd (cc)
 
 -- a rules line
 
@@ -83,7 +84,7 @@ below31 [] = true
 below31 (q ∷ qs) = ltb q.0 31 && below31 qs
 
 no_below : (qs : List Question) (q : ℕ) → below31 qs ≡ true → first_no qs ≡ Some q → q ≡ 31 → ⊥
-no_below [] q h e = let z : ◌≡◌ {A = ℕ} 0 1 = cc in absurd (omega arith)
+no_below [] q h e = absurd (cc)
 no_below (p ∷ ps) q h e = go p.1 (no_below ps q (and_parts (ltb p.0 31) (below31 ps) h).1) e
   where
     go : (b : Bool) → (first_no ps ≡ Some q → q ≡ 31 → ⊥) → cond b (first_no ps) (Some p.0) ≡ Some q → q ≡ 31 → ⊥
@@ -98,14 +99,14 @@ table_at : (n m : ℕ) (qs : List Question) (t : Told) → below31 qs ≡ true �
 table_at n m qs t below h = go (first_no qs) refl h
   where
     go : (o : Option ℕ) → first_no qs ≡ o → by_table n (answer o tt) ≡ Some t → At n m t
-    go None is h = let z : ◌≡◌ {A = ℕ} 0 1 = cc in absurd (omega arith)
+    go None is h = absurd (cc)
     go (Some q) is h = at_other n m q t (in_table q n) refl refl refl (no_below qs q below is) (some_same h)
 
 log_at : (n m : ℕ) (qs : List Question) (t : Told) → below31 qs ≡ true → by_log n (answer (first_no qs) tt) ≡ Some t → At n m t
 log_at n m qs t below h = go (first_no qs) refl h
   where
     go : (o : Option ℕ) → first_no qs ≡ o → by_log n (answer o tt) ≡ Some t → At n m t
-    go None is h = let z : ◌≡◌ {A = ℕ} 0 1 = cc in absurd (omega arith)
+    go None is h = absurd (cc)
     go (Some q) is h = at_other n m q t (in_log q n) refl refl refl (no_below qs q below is) (some_same h)
 
 entered_at : (n m : ℕ) (T : Rules) (r : Result Entry TextFault) (t : Told) → ((e : TextFault) → r ≡ Err e → InLine n m e) → (enters_if n T r).refused ≡ Some t → At n m t
@@ -113,14 +114,7 @@ entered_at n m T (Ok e) t form h = table_at n m (enter_questions T e.letter e.fi
 entered_at n m T (Err e) t form h = at_form n m e t (form e refl) (some_same h)
 
 fields_at : (n next : ℕ) (fs : List (List ℕ)) → length fs ≡ 6 → (e : TextFault) → formed n next fs ≡ Err e → InLine n (length fs) e
-fields_at n next (a ∷ b ∷ d ∷ e ∷ f ∷ g ∷ []) l = formed_faults n next a b d e f g
-fields_at n next [] l = absurd (omega arith)
-fields_at n next (a ∷ []) l = absurd (omega arith)
-fields_at n next (a ∷ b ∷ []) l = absurd (omega arith)
-fields_at n next (a ∷ b ∷ d ∷ []) l = absurd (omega arith)
-fields_at n next (a ∷ b ∷ d ∷ e ∷ []) l = absurd (omega arith)
-fields_at n next (a ∷ b ∷ d ∷ e ∷ f ∷ []) l = absurd (omega arith)
-fields_at n next (a ∷ b ∷ d ∷ e ∷ f ∷ g ∷ j ∷ js) l = absurd (omega arith)
+fields_at n next = of_six (λ fs. (e : TextFault) → formed n next fs ≡ Err e → InLine n (length fs) e) (formed_faults n next)
 
 pub rule_at : (n : ℕ) (T : Rules) (fs : List (List ℕ)) (t : Told) → (read_rule n T fs).refused ≡ Some t → At n (length fs) t
 rule_at n T fs t h = go (shaped 6 fs) refl h

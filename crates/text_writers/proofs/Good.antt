@@ -2,7 +2,8 @@
 use Rattle.std.proofs.Common.{◌≡◌, ℕ, ◌+◌, ◌*◌, ◌^◌, ◌<◌, ◌≤◌, Bool, true, false, not, ◌&&◌, leb, List, [], ◌∷◌, length, decimal, refl, arith}
 use Rattle.std.proofs.lemmas.Fmt.{length-decimal-le}
 use Rattle.std.proofs.lemmas.List.{length-append}
-use Rattle.std.proofs.lemmas.Bool.{and_parts, and_from, not_from_false, not-true, leb-true}
+use Rattle.std.proofs.lemmas.Bool.{and_from, not_from_false}
+use Rattle.std.proofs.lemmas.Bool.Decides.{nat_tests}
 use Rattle.fields.specs.Cuts.{fields_of, shaped}
 use Rattle.fields.specs.States.{is_none}
 use Rattle.text_writers.specs.Writing.{line_end, line_text}
@@ -20,10 +21,7 @@ is_good w = clean w && (not (is_none w) && leb (length w) 10)
 
 -- a field that is written out
 pub literal : (w : List ℕ) → is_good w ≡ true → Good w
-literal w h =
-    let p = and_parts (clean w) (not (is_none w) && leb (length w) 10) h in
-    let q = and_parts (not (is_none w)) (leb (length w) 10) p.1 in
-    record { plain = p.0; some = not-true _ q.0; short = leb-true (length w) 10 q.1 }
+literal w h = record { plain = grind (arith, nat_tests); some = grind (arith, nat_tests); short = grind (arith, nat_tests) }
 
 pub data AllGood : List (List ℕ) → Type 0 where
   end : AllGood []

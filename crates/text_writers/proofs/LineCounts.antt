@@ -54,14 +54,6 @@ some_line (b ∷ bs) = go (ended (b ∷ bs)) refl
     go true is = omega (arith, lines_many [] (b ∷ bs), some_end b bs (eqb-true (last (b ∷ bs)) 10 is))
     go false is = omega arith
 
--- a text that ends has a line
-pub ended_line : (text : List ℕ) → ended text ≡ true → lines_of text ≡ [] → ⊥
-ended_line text is none =
-    let one = some_line text in
-    let last : ◌≡◌ {A = ℕ} (cond (ended text) 0 1) 0 = ap (λ e. cond {A = ℕ} e 0 1) is in
-    let no : length (lines_of text) ≡ 0 = ap length none in
-    omega (arith, one, last, no)
-
 -- the line of a wrong byte, or of an end that is missing
 pub wrong_within : (text : List ℕ) (n : ℕ) → wrong_line text ≡ Some n → (1 ≤ n) × (n ≤ lines_in text)
 wrong_within text n h = go (ltb at (length text)) (ended text) refl refl h
@@ -74,5 +66,5 @@ wrong_within text n h = go (ltb at (length text)) (ended text) refl refl h
         let is : line_at text at ≡ n = some_same h in
         (omega (arith, is), omega (arith, is, counted (take at text), lines_many [] text, take_less at text (ltb-true at (length text) a) (eqb-true (last text) 10 e)))
     go true false a e h = let is : line_at text at ≡ n = some_same h in (omega (arith, is), omega (arith, is, counted (take at text), lines_many [] text, take_le at text))
-    go false true a e h = let z : ◌≡◌ {A = ℕ} 0 1 = cc in absurd (omega arith)
+    go false true a e h = absurd (cc)
     go false false a e h = let is : line_at text (length text) ≡ n = some_same h in (omega (arith, is), omega (arith, is, counted (take (length text) text), lines_many [] text, take_le (length text) text))

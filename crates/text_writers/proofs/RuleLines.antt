@@ -1,6 +1,7 @@
 -- A written rule line is in form, and the table takes it.
-use Rattle.std.proofs.Common.{◌≡◌, ℕ, ◌^◌, ◌<◌, ◌≤◌, Bool, true, ◌&&◌, ltb, List, [], ◌∷◌, ◌++◌, length, Some, None, Ok, decimal, Option, sym, refl, ap, ◌∙◌, arith}
-use Rattle.std.proofs.lemmas.Bool.{cond-true, and_parts, and_from, eq-eqb, ltb-true}
+use Rattle.std.proofs.Common.{◌≡◌, ℕ, ◌^◌, ◌<◌, ◌≤◌, true, ◌&&◌, ltb, List, [], ◌∷◌, ◌++◌, length, Some, None, Ok, decimal, Option, sym, refl, ap, ◌∙◌, arith}
+use Rattle.std.proofs.lemmas.Bool.{cond-true, and_parts, eq-eqb, ltb-true}
+use Rattle.std.proofs.lemmas.Bool.Decides.{nat_tests}
 use Rattle.mtl.specs.Questions.{first_no, answer}
 use Rattle.mtl.specs.Kinds.{kind_at, has_window, has_right}
 use Rattle.mtl.specs.Lines.{Rules, fits, ordered, present}
@@ -84,25 +85,15 @@ line_back (Next w l) = refl
 line_back (Since w l r) = refl
 line_back (Until w l r) = refl
 
-four : (a b c d : Bool) → a ≡ true → b ≡ true → c ≡ true → d ≡ true → first_no ((3, a) ∷ (4, b) ∷ (5, c) ∷ (6, d) ∷ []) ≡ None
-four a b c d ha hb hc hd = λ i. first_no ((3, ha i) ∷ (4, hb i) ∷ (5, hc i) ∷ (6, hd i) ∷ [])
-
 yes_to_all : (n : ℕ) (l : Line) → fits n l ≡ true → first_no (kind_questions n (kind_of l) (entry_of l).fields) ≡ None
-yes_to_all n (Mark m) h = four _ _ _ _ h refl refl refl
-yes_to_all n (Not l) h = four _ _ _ _ refl (and_from (ltb l n) true h refl) refl refl
-yes_to_all n (And l r) h = four _ _ _ _ refl h refl refl
-yes_to_all n (Or l r) h = four _ _ _ _ refl h refl refl
-yes_to_all n (Previous w l) h = let p = and_parts (ltb l n) (ordered w.from w.to) h in four _ _ _ _ refl (and_from (ltb l n) true p.0 refl) p.1 refl
-yes_to_all n (Next w l) h = let p = and_parts (ltb l n) (ordered w.from w.to) h in four _ _ _ _ refl (and_from (ltb l n) true p.0 refl) p.1 refl
-yes_to_all n (Since w l r) h =
-    let p = and_parts (ltb l n) (ltb r n && ordered w.from w.to) h in
-    let q = and_parts (ltb r n) (ordered w.from w.to) p.1 in
-    four _ _ _ _ refl (and_from (ltb l n) (ltb r n) p.0 q.0) q.1 refl
-yes_to_all n (Until w l r) h =
-    let p = and_parts (ltb l n) (ltb r n && (ordered w.from w.to && present w.to)) h in
-    let q = and_parts (ltb r n) (ordered w.from w.to && present w.to) p.1 in
-    let s = and_parts (ordered w.from w.to) (present w.to) q.1 in
-    four _ _ _ _ refl (and_from (ltb l n) (ltb r n) p.0 q.0) s.0 s.1
+yes_to_all n (Mark m) h = grind (arith, nat_tests)
+yes_to_all n (Not l) h = grind (arith, nat_tests)
+yes_to_all n (And l r) h = grind (arith, nat_tests)
+yes_to_all n (Or l r) h = grind (arith, nat_tests)
+yes_to_all n (Previous w l) h = grind (arith, nat_tests)
+yes_to_all n (Next w l) h = grind (arith, nat_tests)
+yes_to_all n (Since w l r) h = grind (arith, nat_tests)
+yes_to_all n (Until w l r) h = grind (arith, nat_tests)
 
 -- a line that fits, after T, is taken
 pub taken : (n : ℕ) (T : Rules) (l : Line) → length T < 32 → fits (length T) l ≡ true → enters n T (entry_of l) ≡ accepts (T ++ l ∷ [])

@@ -1,9 +1,9 @@
 -- A rules text that is read without fault is the text of its table.
-use Rattle.std.proofs.Common.{◌≡◌, ℕ, ◌+◌, Bool, true, false, cond, eqb, ltb, List, [], ◌∷◌, ◌++◌, length, Some, None, Ok, Err, codes, decimal, Option, Result, sym, refl, ap, ◌∙◌, arith}
+use Rattle.std.proofs.Common.{◌≡◌, ℕ, ◌+◌, Bool, true, false, cond, ltb, List, [], ◌∷◌, ◌++◌, length, Some, None, Ok, Err, codes, decimal, Option, Result, sym, refl, ap, ◌∙◌, arith}
 use Rattle.std.specs.Str.{bytes_eq}
 use Rattle.std.proofs.lemmas.Slice.Eq.{bytes_eq-Decides}
 use Rattle.std.proofs.lemmas.List.{append-nil, append_assoc, length_push}
-use Rattle.std.proofs.lemmas.Bool.{eqb-true}
+use Rattle.std.proofs.lemmas.Bool.Decides.{nat_tests}
 use Rattle.mtl.specs.Questions.{first_no, answer}
 use Rattle.mtl.specs.Kinds.{kind_at, has_window, has_right}
 use Rattle.mtl.specs.Lines.{Rules}
@@ -28,7 +28,7 @@ use Rattle.text_writers.specs.RuleTexts.{unused, end_field, rule_fields, rules_f
 use Rattle.text_writers.specs.Laws.{RulesOnly, RulesDiffer}
 use Rattle.text_writers.proofs.Joined.{joined_lines, split, line_is, went}
 use Rattle.text_writers.proofs.RuleLines.{entry}
-use Rattle.text_writers.proofs.Said.{used_is, unused_is, end_is, no_end_is, next_is, letter_is, through, in_form_lem}
+use Rattle.text_writers.proofs.Said.{used_is, unused_is, end_is, no_end_is, next_is, letter_is, through, in_form_lem, of_six}
 use Rattle.text_writers.proofs.Variants.{ok_same}
 
 -- the letter of a kind
@@ -43,17 +43,8 @@ letter_of Next = 120
 letter_of Since = 115
 letter_of Until = 117
 
-pick : (c n : ℕ) (x k : Kind) (rest : Option Kind) → letter_of x ≡ n → (rest ≡ Some k → c ≡ letter_of k) → cond (eqb c n) (Some x) rest ≡ Some k → c ≡ letter_of k
-pick c n x k rest is more h = go (eqb c n) refl h
-  where
-    go : (b : Bool) → eqb c n ≡ b → cond b (Some x) rest ≡ Some k → c ≡ letter_of k
-    go true e h = let same : x ≡ k = cc in eqb-true c n e ∙ sym is ∙ ap letter_of same
-    go false e h = more h
-
 letter_kind : (c : ℕ) (k : Kind) → kind_at c ≡ Some k → c ≡ letter_of k
-letter_kind c k =
-    pick c 109 Mark k _ refl (pick c 110 Not k _ refl (pick c 97 And k _ refl (pick c 111 Or k _ refl
-    (pick c 112 Previous k _ refl (pick c 120 Next k _ refl (pick c 115 Since k _ refl (pick c 117 Until k None refl (λ h. let z : ◌≡◌ {A = ℕ} 0 1 = cc in absurd (omega arith)))))))))
+letter_kind c k h = grind (arith, nat_tests)
 
 -- the fields of a line, by its kind and what it is entered with
 
@@ -96,7 +87,7 @@ rest_is : (line n c : ℕ) (a b d e f g : List ℕ) (o : Option Kind) (x : Entry
     rest_by c o (spot line 3 d) (spot line 4 e) (spot line 5 f) (spot line 6 g) ≡ Ok x → Formed n x (a ∷ b ∷ d ∷ e ∷ f ∷ g ∷ [])
 rest_is line n c a b d e f g None x ha hb ho h =
     let same : entry c 0 None 0 0 ≡ x = ok_same h in
-    record { at = λ k is. let none : None ≡ Some k = sym ho ∙ ap (λ (y : Entry). kind_at y.letter) same ∙ is in let z : ◌≡◌ {A = ℕ} 0 1 = cc in absurd (omega arith) }
+    record { at = λ k is. let none : None ≡ Some k = sym ho ∙ ap (λ (y : Entry). kind_at y.letter) same ∙ is in absurd (cc) }
 rest_is line n c a b d e f g (Some k) x ha hb ho h =
     let from = through (in_form (used_in (has_window k)) (spot line 3 d)) _ x h in
     let to = through (in_form (end_in (has_window k)) (spot line 4 e)) _ x from.rest in
@@ -136,13 +127,13 @@ abbrev asks : Bool → ℕ → Option Kind → Fields → Result (Unit {0}) ℕ
 asks full n o f = answer (first_no ((1, full) ∷ line_questions n o f)) tt
 
 known : (full : Bool) (n : ℕ) (o : Option Kind) (f : Fields) (m : ℕ) → by_table m (asks full n o f) ≡ None → (k : Kind) × (o ≡ Some k) × (asks full n o f ≡ Ok tt)
-known false n o f m h = let z : ◌≡◌ {A = ℕ} 0 1 = cc in absurd (omega arith)
-known true n None f m h = let z : ◌≡◌ {A = ℕ} 0 1 = cc in absurd (omega arith)
+known false n o f m h = absurd (cc)
+known true n None f m h = absurd (cc)
 known true n (Some k) f m h = (k, refl, go (asks true n (Some k) f) h)
   where
     go : (r : Result (Unit {0}) ℕ) → by_table m r ≡ None → r ≡ Ok tt
     go (Ok tt) h = refl
-    go (Err q) h = let z : ◌≡◌ {A = ℕ} 0 1 = cc in absurd (omega arith)
+    go (Err q) h = absurd (cc)
 
 entered_is : (m : ℕ) (T : Rules) (fs : List (List ℕ)) (e : Entry) → Formed (length T) e fs → (enters m T e).refused ≡ None → Next1 T fs (enters m T e)
 entered_is m T fs e f h =
@@ -155,27 +146,19 @@ entered_is m T fs e f h =
 
 if_formed : (m : ℕ) (T : Rules) (fs : List (List ℕ)) (r : Result Entry TextFault) → ((e : Entry) → r ≡ Ok e → Formed (length T) e fs) → (enters_if m T r).refused ≡ None → Next1 T fs (enters_if m T r)
 if_formed m T fs (Ok e) made h = entered_is m T fs e (made e refl) h
-if_formed m T fs (Err f) made h = let z : ◌≡◌ {A = ℕ} 0 1 = cc in absurd (omega arith)
+if_formed m T fs (Err f) made h = absurd (cc)
 
 shaped_rule : (m : ℕ) (T : Rules) (fs : List (List ℕ)) → shaped 6 fs ≡ true → (enters_if m T (formed m (length T) fs)).refused ≡ None → Next1 T fs (enters_if m T (formed m (length T) fs))
-shaped_rule m T fs s h = go fs (shaped_length 6 fs s) h
-  where
-    go : (fs : List (List ℕ)) → length fs ≡ 6 → (enters_if m T (formed m (length T) fs)).refused ≡ None → Next1 T fs (enters_if m T (formed m (length T) fs))
-    go (a ∷ b ∷ d ∷ e ∷ f ∷ g ∷ []) l h = if_formed m T _ (formed m (length T) (a ∷ b ∷ d ∷ e ∷ f ∷ g ∷ [])) (λ x. formed_is m (length T) a b d e f g x) h
-    go [] l h = absurd (omega arith)
-    go (a ∷ []) l h = absurd (omega arith)
-    go (a ∷ b ∷ []) l h = absurd (omega arith)
-    go (a ∷ b ∷ d ∷ []) l h = absurd (omega arith)
-    go (a ∷ b ∷ d ∷ e ∷ []) l h = absurd (omega arith)
-    go (a ∷ b ∷ d ∷ e ∷ f ∷ []) l h = absurd (omega arith)
-    go (a ∷ b ∷ d ∷ e ∷ f ∷ g ∷ j ∷ js) l h = absurd (omega arith)
+shaped_rule m T fs s h =
+    of_six (λ fs. (enters_if m T (formed m (length T) fs)).refused ≡ None → Next1 T fs (enters_if m T (formed m (length T) fs)))
+    (λ a b d e f g. if_formed m T _ (formed m (length T) (a ∷ b ∷ d ∷ e ∷ f ∷ g ∷ [])) (λ x. formed_is m (length T) a b d e f g x)) fs (shaped_length 6 fs s) h
 
 rule_is : (m : ℕ) (T : Rules) (fs : List (List ℕ)) → (read_rule m T fs).refused ≡ None → Next1 T fs (read_rule m T fs)
 rule_is m T fs h = go (shaped 6 fs) refl h
   where
     go : (b : Bool) → shaped 6 fs ≡ b → (cond b (enters_if m T (formed m (length T) fs)) (refuses T (in_text 30 m 0))).refused ≡ None → Next1 T fs (cond b (enters_if m T (formed m (length T) fs)) (refuses T (in_text 30 m 0)))
     go true s h = shaped_rule m T fs s h
-    go false s h = let z : ◌≡◌ {A = ℕ} 0 1 = cc in absurd (omega arith)
+    go false s h = absurd (cc)
 
 -- the lines that are read are those of the table
 
@@ -215,11 +198,11 @@ named_is p h = go (bytes_eq p.names (codes "line kind from to left right")) refl
     go true same h =
         let lines = lines_are 2 p.values [] h in
         (λ i. same_bytes_lem p.names (codes "line kind from to left right") same i ++ (10 ∷ lines.text i)) ∙ ap rules_text (sym lines.entries)
-    go false same h = let z : ◌≡◌ {A = ℕ} 0 1 = cc in absurd (omega arith)
+    go false same h = absurd (cc)
 
 parts_are : (text : List ℕ) (r : Result Parts Told) → parts_of text ≡ r → (read_parts read_named r []).refused ≡ None → text ≡ rules_text (read_parts read_named r []).entries
 parts_are text (Ok p) is h = (split text p is).all ∙ named_is p h
-parts_are text (Err t) is h = let z : ◌≡◌ {A = ℕ} 0 1 = cc in absurd (omega arith)
+parts_are text (Err t) is h = absurd (cc)
 
 pub rules_only : RulesOnly
 rules_only text h = parts_are text (parts_of text) refl h

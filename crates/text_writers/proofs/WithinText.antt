@@ -39,7 +39,7 @@ abbrev Tells : {X : Type 0} → (ℕ → List X → List (List ℕ) → Outcome 
 Tells {X} read = (n : ℕ) (es : List X) (fs : List (List ℕ)) (t : Told) → (read n es fs).refused ≡ Some t → At n (length fs) t
 
 find : {X : Type 0} (read : ℕ → List X → List (List ℕ) → Outcome X) → Tells read → (n : ℕ) (ls : List (List ℕ)) (es : List X) (t : Told) → (read_lines read n ls es).refused ≡ Some t → Found n ls t
-find read tells n [] es t h = let z : ◌≡◌ {A = ℕ} 0 1 = cc in absurd (omega arith)
+find read tells n [] es t h = absurd (cc)
 find read tells n (l ∷ ls) es t h =
     let o = read n es (fields_of l) in
     elim (stops o.entries o.refused (λ more. read_lines read (n + 1) ls more) t h) [
@@ -74,7 +74,7 @@ parts_by_lem text (Some n) ls t wrong h =
     let place = wrong_within text n wrong in
     whole_within text 28 n t (λ e. omega arith) place.1 (λ e. absurd (omega (arith, place.0))) (err_same h)
 parts_by_lem text None [] t wrong h = names_within text t (err_same h)
-parts_by_lem text None (l ∷ ls) t wrong h = let z : ◌≡◌ {A = ℕ} 0 1 = cc in absurd (omega arith)
+parts_by_lem text None (l ∷ ls) t wrong h = absurd (cc)
 
 parts_within : (text : List ℕ) (t : Told) → parts_of text ≡ Err t → Within text t
 parts_within text t h = go (leb (length text) 16384) h
@@ -98,7 +98,7 @@ rules_within text T t h = text_within read_named text T t (λ p lines. go p line
     go p lines false h = names_within text t (some_same h)
 
 some_names : (fs : List (List ℕ)) (count : ℕ) → names_in fs ≡ Some count → 1 ≤ count
-some_names [] count is = let z : ◌≡◌ {A = ℕ} 0 1 = cc in absurd (omega arith)
+some_names [] count is = absurd (cc)
 some_names (w ∷ ws) count is = omega (arith, (names_count (w ∷ ws) count is).0)
 
 pub logs_within : LogsWithin

@@ -3,5 +3,6 @@
 
 pub mod laws;
 pub mod log;
+mod log_line;
 mod rule_line;
 pub mod rules;

@@ -1,9 +1,9 @@
 // A rule line as a line of a rules text.
-ghost use Rattle.std.specs.Prelude.{Some};
+ghost use Rattle.std.specs.Prelude.{Some, ◌++◌, ◌∷◌, decimal};
 ghost use Rattle.text_writers.specs.Writing.{line_text};
 ghost use Rattle.text_writers.specs.RuleTexts.{end_field, rule_fields};
 
-use mtl::line::Line;
+use mtl::line::{Line, Window};
 use std::fmt;
 
 // A line of a table, with its number.
@@ -13,19 +13,18 @@ pub struct RuleLine {
     pub line: Line,
 }
 
-// The end of a window: a number, or `-` for none.
+// The two fields of a window: where it begins, and where it ends or `-` for nowhere.
 #[derive(Clone, Copy)]
-pub struct WindowEnd {
-    pub to: Option<u32>,
-}
+pub struct Span(pub Window);
 
-impl fmt::Display for WindowEnd {
-    ghost output = { λ e. Some (end_field e.to) };
+impl fmt::Display for Span {
+    ghost output = { λ w. Some (decimal w.0.from ++ 32 ∷ end_field w.0.to) };
 
     fn fmt<W: fmt::Write>(&self, f: &mut fmt::Formatter<W>) -> fmt::Result {
-        match self.to {
-            Some(to) => write!(f, "{to}"),
-            None => write!(f, "-"),
+        let from = self.0.from;
+        match self.0.to {
+            Some(to) => write!(f, "{from} {to}"),
+            None => write!(f, "{from} -"),
         }
     }
 }
@@ -35,27 +34,24 @@ impl fmt::Display for RuleLine {
 
     fn fmt<W: fmt::Write>(&self, f: &mut fmt::Formatter<W>) -> fmt::Result {
         let n = self.number;
+        // Each form is written out whole, its letter too, as a reader sees it in a text.
         match self.line {
-            Line::Mark(mark) => write!(f, "{n} m - - {mark} -\n"),
-            Line::Not(left) => write!(f, "{n} n - - {left} -\n"),
-            Line::And(left, right) => write!(f, "{n} a - - {left} {right}\n"),
-            Line::Or(left, right) => write!(f, "{n} o - - {left} {right}\n"),
-            Line::Previous(window, left) => {
-                let (from, to) = (window.from, WindowEnd { to: window.to });
-                write!(f, "{n} p {from} {to} {left} -\n")
-            }
-            Line::Next(window, left) => {
-                let (from, to) = (window.from, WindowEnd { to: window.to });
-                write!(f, "{n} x {from} {to} {left} -\n")
-            }
-            Line::Since(window, left, right) => {
-                let (from, to) = (window.from, WindowEnd { to: window.to });
-                write!(f, "{n} s {from} {to} {left} {right}\n")
-            }
-            Line::Until(window, left, right) => {
-                let (from, to) = (window.from, WindowEnd { to: window.to });
-                write!(f, "{n} u {from} {to} {left} {right}\n")
-            }
+            Line::Mark(mark) => writeln!(f, "{n} m - - {mark} -"),
+            Line::Not(left) => writeln!(f, "{n} n - - {left} -"),
+            Line::And(left, right) => writeln!(f, "{n} a - - {left} {right}"),
+            Line::Or(left, right) => writeln!(f, "{n} o - - {left} {right}"),
+            Line::Previous(window, left) => writeln!(f, "{n} p {} {left} -", Span(window)),
+            Line::Next(window, left) => writeln!(f, "{n} x {} {left} -", Span(window)),
+            Line::Since(window, left, right) => writeln!(
+                f,
+                "{n} s {} {left} {right}",
+                Span(window)
+            ),
+            Line::Until(window, left, right) => writeln!(
+                f,
+                "{n} u {} {left} {right}",
+                Span(window)
+            ),
         }
     }
 }

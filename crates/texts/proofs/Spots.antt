@@ -13,6 +13,10 @@ pub record Before (fs : List (List ℕ)) (n k : ℕ) (l : Lexer) : Type 0 where
   pub line : l.line ≡ n
   pub field : l.field ≡ k + 1
 
+-- at the line's beginning
+pub begun : (fs : List (List ℕ)) (n : ℕ) (l : Lexer) → left l ≡ fs → (l.line ≡ n) × (l.field ≡ 1) → Before fs n 0 l
+begun fs n l rest place = record { rest = rest; line = place.0; field = place.1 }
+
 -- field k is given out
 pub given : (fs : List (List ℕ)) (n k : ℕ) (l m : Lexer) (p : Placed) → k < length fs → Before fs n k l → Gave l m (said p.token) → (p.line ≡ l.line) × (p.field ≡ l.field) →
     (spot_of p ≡ spot_at n fs k) × Before fs n (k + 1) m

@@ -13,7 +13,7 @@ pub struct RuleFields<'a> {
     pub right: Placed<'a>,
 }
 
-// As they are entered into a draft.
+// As they are entered into a draft. By its letter, and not its kind: that no kind has the letter is the table's question, after its room.
 #[derive(Clone, Copy)]
 pub struct Entry {
     pub letter: char,

@@ -5,7 +5,7 @@ use logs::fault::AddFault;
 use mtl::line::LineFault;
 
 // Lines are counted from 1 in the text, and fields from 1 in their line.
-#[derive(Clone, Copy, Debug, PartialEq)]
+#[derive(Clone, Copy, Debug, PartialEq, Eq)]
 pub enum TextFault {
     // The text has more than 16,384 bytes.
     TooLong,
@@ -24,7 +24,7 @@ pub enum TextFault {
 }
 
 // The layer that refuses a text.
-#[derive(Clone, Copy, Debug, PartialEq)]
+#[derive(Clone, Copy, Debug, PartialEq, Eq)]
 pub enum Layer {
     Text,
     Table,
@@ -32,7 +32,8 @@ pub enum Layer {
 }
 
 // What a refusal tells: the number of the question, the layer, the line and the field, each 0 where there is none to tell.
-#[derive(Clone, Copy, Debug, PartialEq)]
+// In numbers, and not in options, since so C is told it and the listing prints it.
+#[derive(Clone, Copy, Debug, PartialEq, Eq)]
 pub struct Told {
     pub number: u8,
     pub layer: Layer,

@@ -1,13 +1,13 @@
-// The names line of a text, after the questions on its length and its bytes.
+// The lines of a text, after the questions on its length and its bytes.
 ghost use Rattle.texts.specs.Lines.{Begins};
 
 use crate::fault::TextFault;
-use fields::first::FirstLine;
-use fields::lines::first_line;
+use fields::lines::Lines;
 use fields::scan::wrong_line;
 
-// The names line of a text whose length and bytes are right, and the rest.
-pub(crate) fn names_line<'a>(text: &'a [u8]) -> Result<FirstLine<'a>, TextFault>
+// The lines of a text whose length and bytes are right.
+#[tactic(auto, using(fields::proofs::Cut::lines_few))]
+pub(crate) fn right_lines<'a>(text: &'a [u8]) -> Result<Lines<'a>, TextFault>
     ensures { Begins result text.now }
 {
     if text.len() > 16384 {
@@ -16,8 +16,5 @@ pub(crate) fn names_line<'a>(text: &'a [u8]) -> Result<FirstLine<'a>, TextFault>
     if let Some(line) = wrong_line(text) {
         return Err(TextFault::WrongByte { line });
     }
-    match first_line(text) {
-        Some(names) => Ok(names),
-        None => Err(TextFault::WrongNames),
-    }
+    Ok(Lines { rest: text })
 }

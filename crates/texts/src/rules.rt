@@ -8,8 +8,7 @@ ghost use Rattle.texts.specs.Rules.{read_rule, read_rules};
 
 use crate::fault::TextFault;
 use crate::forms::{entry_of, six_fields};
-use crate::lines::names_line;
-use fields::lines::first_line;
+use crate::lines::right_lines;
 use fields::shape::has_fields;
 use mtl::draft::Draft;
 
@@ -24,10 +23,9 @@ fn read_line(text: &[u8], line: usize, draft: &mut Draft) -> Result<(), TextFaul
     let fields = six_fields(text, line);
     let next = draft.len() as u32;
     let entry = entry_of(&fields, next)?;
-    match draft.enter(entry.letter, entry.fields) {
-        Ok(()) => Ok(()),
-        Err(fault) => Err(TextFault::Table { line, fault }),
-    }
+    draft
+        .enter(entry.letter, entry.fields)
+        .map_err(|fault| TextFault::Table { line, fault })
 }
 
 // Whether a line has the names of the fields.
@@ -42,16 +40,12 @@ pub fn read_rules(text: &[u8], draft: &mut Draft) -> Result<(), TextFault>
     ensures answer { told_by result ≡ (read_rules text.now (entered draft.old)).refused }
     ensures lines { entered draft.new ≡ (read_rules text.now (entered draft.old)).entries }
 {
-    let names = names_line(text)?;
-    if !names_fields(names.line) {
+    let mut lines = right_lines(text)?.enumerate();
+    if !lines.next().is_some_and(|(_, names)| names_fields(names)) {
         return Err(TextFault::WrongNames);
     }
-    let mut rest = names.rest;
-    let mut line = 2;
-    while let Some(next) = first_line(rest) {
-        read_line(next.line, line, draft)?;
-        rest = next.rest;
-        line += 1;
+    for (i, line) in lines {
+        read_line(line, i + 1, draft)?;
     }
     Ok(())
 }

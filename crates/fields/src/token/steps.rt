@@ -37,7 +37,7 @@ impl<'a> Lexer<'a> {
         word
     }
 
-    // One step, at the byte that stands at the lexer's place.
+    // One step, at the byte that stands at the lexer's place. One match on state and byte, in place, is a wanted form (docs/DECISIONS.md).
     fn step(&mut self, byte: u8) -> Option<Token<'a>>
         requires { (self.old.at < length self.old.text.now) × (byte ≡ slice_index self.old.text.now self.old.at) }
         ensures { Stepped self.old self.new result }
@@ -48,8 +48,7 @@ impl<'a> Lexer<'a> {
                 self.cut();
                 Some(Token::Dash)
             }
-            (State::Fresh, b' ') => Some(Token::Word(self.cut())),
-            (State::Inside, b' ') => Some(Token::Word(self.cut())),
+            (State::Fresh | State::Inside, b' ') => Some(Token::Word(self.cut())),
             (State::Fresh, b'-') => {
                 self.at += 1;
                 self.state = State::Dashed;
@@ -83,15 +82,14 @@ impl<'a> Lexer<'a> {
         }
     }
 
-    // The next token, with its line and field.
+    // The next token, with its line and field. No iterator's `next`: the line's end has a place too, and comes again past the end.
     pub fn next(&mut self) -> Placed<'a>
         ensures gave { Gave self.old self.new (said result.token) }
         ensures place { (result.line ≡ self.old.line) × (result.field ≡ self.old.field) }
     {
         let line = self.line;
         let field = self.field;
-        while self.at < self.text.len() {
-            let byte = self.text[self.at];
+        while let Some(&byte) = self.text.get(self.at) {
             if let Some(token) = self.step(byte) {
                 return Placed { token, line, field };
             }

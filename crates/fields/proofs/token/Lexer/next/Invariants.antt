@@ -2,12 +2,12 @@ use Rattle.std.proofs.Common.{◌≡◌, ◌-◌, length}
 use Rattle.fields.specs.Lexing.{left}
 use Rattle.fields.proofs.token.Lexer.next.Given as goal
 
-abbrev pub invariant-loop-self : goal.invariant-loop-self
-invariant-loop-self l =
+abbrev pub invariant-loop-byte : goal.invariant-loop-byte
+invariant-loop-byte l =
     (left l.self ≡ left l.initial.self)
     × (l.self.text ≡ l.initial.self.text)
     × (l.self.line ≡ l.initial.self.line)
     × (l.self.field ≡ l.initial.self.field)
 
-abbrev pub decreases-loop-self : goal.decreases-loop-self
-decreases-loop-self l = length l.self.text.now - l.self.at
+abbrev pub decreases-loop-byte : goal.decreases-loop-byte
+decreases-loop-byte l = length l.self.text.now - l.self.at
