@@ -1,23 +1,19 @@
 -- The children's lines and rows as the code walks them, against those of the rules' table.
-use Rattle.std.proofs.Common.{◌≡◌, ℕ, suc, ◌+◌, ◌-◌, Bool, true, false, cond, ◌&&◌, eqb, leb, List, [], ◌∷◌, length, sym, refl, ap, ◌∙◌, ap₂, inl, inr, arith}
-use Rattle.std.proofs.lemmas.Bool.{both_ways, eqb-true, eq-eqb, ne_eqb, le-leb, cases_eq, and_parts}
+use Rattle.std.proofs.Common.{◌≡◌, ℕ, zero, suc, ◌+◌, ◌-◌, Bool, true, false, cond, ◌&&◌, eqb, leb, List, [], ◌∷◌, filter, length, sym, refl, ap, ◌∙◌, ap₂, add-one, arith}
+use Rattle.std.specs.List.{range_with_len}
+use Rattle.std.proofs.Math.Bool.{and-true}
+use Rattle.std.proofs.lemmas.Bool.{false≢true, eqb-true, eq-eqb, le-leb, and_parts}
 use Rattle.mtl.specs.declared.row.Row.{Row}
+use Rattle.mtl.specs.declared.line.Window.{Window}
 use Rattle.mtl.specs.declared.ruling.Claim.{Claim}
 use Rattle.mtl.specs.declared.ruling.Ruling.{Ruling}
 use Rattle.mtl.specs.Claims.{claim, each}
 use Rattle.mtl.specs.Checking.{alike, all_alike, each_alike, same_rows}
 use Rattle.mtl.specs.Ranges.{run, range, keep}
-use Rattle.checker.specs.declared.reading.Side.{Side}
+use Rattle.checker.specs.declared.view.Side.{Side}
 use Rattle.checker.specs.Parts.{between}
-use Rattle.mtl.specs.Windows.{wide}
+use Rattle.mtl.specs.Windows.{inside, wide}
 use Rattle.checker.specs.Children.{is_of, all_of, first_then_of, all_at, rows_are, chosen}
-
-pub eqb_sym : (a b : ℕ) → eqb a b ≡ eqb b a
-eqb_sym a b =
-    elim (cases_eq a b) [ inl e ↦ eq-eqb a b e ∙ sym (eq-eqb b a (sym e)) | inr n ↦ ne_eqb a b n ∙ sym (ne_eqb b a (λ e. n (sym e))) ]
-
-never : {A : Type 0} → false ≡ true → A
-never e = absurd (both_ways true (sym e) refl)
 
 -- lines and rulings
 
@@ -49,29 +45,28 @@ two_alike a b i r (c ∷ d ∷ e ∷ cs) h = absurd (omega (arith, eqb-true 2 (l
 pub no_rows : (cs : List Claim) → each_alike [] cs ≡ true → same_rows [] cs ≡ true
 unfolding each_alike same_rows
 no_rows [] h = refl
-no_rows (c ∷ cs) h = never h
+no_rows (c ∷ cs) h = absurd (false≢true h)
 
 row_only : (a b : Bool) → b ≡ true → (a && b) ≡ a
-row_only true b e = e
-row_only false b e = refl
+row_only a b e = ap (λ t. a && t) e ∙ and-true a
 
 pub one_row : (n i : ℕ) (r : Ruling) (cs : List Claim) → each_alike (claim n i r ∷ []) cs ≡ true → same_rows (claim n i r ∷ []) cs ≡ all_at i cs
 unfolding each_alike same_rows
-one_row n i r [] h = never h
+one_row n i r [] h = absurd (false≢true h)
 one_row n i r (c ∷ []) h = ap (λ t. t && true) (row_only (eqb i c.row) (alike (claim n i r) c) (and_parts _ true h).0)
-one_row n i r (c ∷ d ∷ cs) h = never (and_parts (alike (claim n i r) c) false h).1
+one_row n i r (c ∷ d ∷ cs) h = absurd (false≢true (and_parts (alike (claim n i r) c) false h).1)
 
 pub two_rows : (a b i : ℕ) (r : Ruling) (cs : List Claim) → each_alike (claim a i r ∷ claim b i r ∷ []) cs ≡ true → same_rows (claim a i r ∷ claim b i r ∷ []) cs ≡ all_at i cs
 unfolding each_alike same_rows
-two_rows a b i r [] h = never h
-two_rows a b i r (c ∷ []) h = never (and_parts (alike (claim a i r) c) false h).1
+two_rows a b i r [] h = absurd (false≢true h)
+two_rows a b i r (c ∷ []) h = absurd (false≢true (and_parts (alike (claim a i r) c) false h).1)
 two_rows a b i r (c ∷ d ∷ []) h =
     let p = and_parts (alike (claim a i r) c) _ h in
     let q = and_parts (alike (claim b i r) d) true p.1 in
     ap₂ ◌&&◌ (row_only (eqb i c.row) _ p.0) (ap (λ t. t && true) (row_only (eqb i d.row) _ q.0))
 two_rows a b i r (c ∷ d ∷ e ∷ cs) h =
     let p = and_parts (alike (claim a i r) c) (alike (claim b i r) d && false) h in
-    never (and_parts (alike (claim b i r) d) false p.1).1
+    absurd (false≢true (and_parts (alike (claim b i r) d) false p.1).1)
 
 pub each_row : (n i : ℕ) (r : Ruling) (ks : List ℕ) (cs : List Claim) → all_alike (claim n i r) cs ≡ true → same_rows (each r n ks) cs ≡ rows_are ks cs
 unfolding all_alike same_rows
@@ -91,22 +86,27 @@ led_rows b n i r ks c cs h g =
 
 -- which rows
 
-keep_same : (p q : ℕ → Bool) (xs : List ℕ) → ((k : ℕ) → p k ≡ q k) → keep p xs ≡ keep q xs
-unfolding keep
-keep_same p q [] h = refl
-keep_same p q (x ∷ xs) h = (λ i. cond (h x i) (x ∷ keep_same p q xs h i) (keep_same p q xs h i))
+pub picked : (p q : ℕ → Bool) (a n : ℕ) → ((k : ℕ) → p k ≡ q k) → keep p (run a n) ≡ filter q (range_with_len a n)
+unfolding run keep
+picked p q a zero h = refl
+picked p q a (suc n) h =
+    let rest : keep p (run (suc a) n) ≡ filter q (range_with_len (a + 1) n) = picked p q (suc a) n h ∙ ap (λ b. filter q (range_with_len b n)) (sym (add-one a)) in
+    (λ i. cond (h a i) (a ∷ rest i) (rest i))
 
-keep_all : (p : ℕ → Bool) (xs : List ℕ) → ((k : ℕ) → p k ≡ true) → keep p xs ≡ xs
+keep_all : (p : ℕ → Bool) (xs : List ℕ) → ((k : ℕ) → p k ≡ true) → xs ≡ keep p xs
 unfolding keep
 keep_all p [] h = refl
-keep_all p (x ∷ xs) h = (λ i. cond (h x i) (x ∷ keep_all p xs h i) (keep_all p xs h i))
+keep_all p (x ∷ xs) h = (λ i. cond (sym (h x) i) (x ∷ keep_all p xs h i) (keep_all p xs h i))
 
-pub any_time : (R : List Row) (side : Side) (i first end : ℕ) → run first (end - first) ≡ chosen R side (wide 0) i first end
-any_time R side i first end = sym (keep_all _ (run first (end - first)) (λ k. row_only (leb 0 (between R side i k)) true refl ∙ le-leb 0 _ (omega arith)))
+module _ (R : List Row) (side : Side) (i first end : ℕ) where
+  pub inside_on : (w : Window) → keep (λ k. inside w (between R side i k)) (run first (end - first)) ≡ chosen R side w i first end
+  inside_on w = picked _ _ first (end - first) (λ k. refl)
 
-pub from_on : (R : List Row) (side : Side) (from i first end : ℕ) →
-    keep (λ k. leb from (between R side i k)) (run first (end - first)) ≡ chosen R side (wide from) i first end
-from_on R side from i first end = keep_same _ _ (run first (end - first)) (λ k. sym (row_only (leb from (between R side i k)) true refl))
+  pub any_time : run first (end - first) ≡ chosen R side (wide 0) i first end
+  any_time = keep_all _ (run first (end - first)) (λ k. and-true (leb 0 (between R side i k)) ∙ le-leb 0 _ (omega arith)) ∙ inside_on (wide 0)
+
+  pub from_on : (from : ℕ) → keep (λ k. leb from (between R side i k)) (run first (end - first)) ≡ chosen R side (wide from) i first end
+  from_on from = picked _ _ first (end - first) (λ k. sym (and-true (leb from (between R side i k))))
 
 -- a range ends before the row after its last
 pub range_end : (a b : ℕ) → range a b ≡ run a (b + 1 - a)

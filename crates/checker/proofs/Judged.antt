@@ -11,14 +11,14 @@ use Rattle.mtl.specs.Checking.{form_at, count_fits, lines_fit, same_rows, known,
 use Rattle.mtl.specs.Forms.{Form, forms}
 use Rattle.mtl.specs.Lines.{Rules, line_at, line_in}
 use Rattle.mtl.specs.Questions.{first_no}
-use Rattle.checker.specs.declared.reading.Parts.{Parts}
+use Rattle.checker.specs.declared.parts.Parts.{Parts}
 use Rattle.proof_rules.specs.declared.standing.Standing.{Standing}
 use Rattle.proof_rules.specs.declared.standing.Standing.TheVariants.{OtherKind, WrongCount, OutsideInterval, Fits}
-use Rattle.checker.specs.Parts.{parts_of, beside}
+use Rattle.checker.specs.Parts.{parts_of, interval_of}
 use Rattle.proof_rules.specs.Rule.{of_kind, counted, timed, standing, ruled}
 use Rattle.checker.specs.Children.{lines_shown}
 use Rattle.checker.specs.Placed.{placed}
-use Rattle.checker.proofs.Coded.{interval_of, Coded}
+use Rattle.checker.proofs.Coded.{Coded}
 use Rattle.checker.proofs.OwnForms.{Agrees, agreed}
 
 -- a node's step by the answers to its six questions
@@ -72,11 +72,9 @@ no_line T R s d e = go (ltb d.line (length T)) refl e
 -- the line is in the table and read as these parts, and the node's standing is worked out
 pub record Read (T : Rules) (R : List Row) (d : Node) (p : Parts) (st : Standing) : Type 0 where
   pub line : Line
-  pub gap : Option ℕ
   pub found : Some line ≡ line_in T d.line
   pub parted : p ≡ parts_of line
-  pub gapped : gap ≡ beside R p.kind d.row
-  pub stood : st ≡ standing p.kind d.rule d.count (record { window = p.window; gap = gap })
+  pub stood : st ≡ standing p.kind d.rule d.count (interval_of R d.row p)
 
 module _ {T : Rules} {R : List Row} {d : Node} {p : Parts} {st : Standing} (s : List Claim) (at : Read T R d p st) where
   read : (b : Bool) → ltb d.line (length T) ≡ b → Some at.line ≡ cond b (Some (line_at T d.line)) None → (ltb d.line (length T) ≡ true) × (at.line ≡ line_at T d.line)
@@ -95,7 +93,7 @@ module _ {T : Rules} {R : List Row} {d : Node} {p : Parts} {st : Standing} (s : 
   told : (v : Standing) → st ≡ v → Says (of_kind p.kind d.rule) (counted d.rule d.count) (timed d.rule (interval_of R d.row p)) v
   told v e =
       subst (Says (of_kind p.kind d.rule) (counted d.rule d.count) (timed d.rule (interval_of R d.row p)))
-      (ap (λ x. standing p.kind d.rule d.count (record { window = p.window; gap = x })) (sym at.gapped) ∙ (sym at.stood ∙ e))
+      (sym at.stood ∙ e)
       (says (of_kind p.kind d.rule) (counted d.rule d.count) (timed d.rule (interval_of R d.row p)))
 
   pub other_kind : st ≡ OtherKind → stops 15 ≡ node_step T R s d
@@ -112,7 +110,7 @@ module _ {T : Rules} {R : List Row} {d : Node} {p : Parts} {st : Standing} (s : 
   kind_known v not h = go (form_at (forms R d.row (line_at T d.line)) d.rule) agrees
     where
       other : of_kind p.kind d.rule ≡ false → st ≡ OtherKind
-      other e = at.stood ∙ ap (λ b. cond b (cond (counted d.rule d.count) (cond (timed d.rule (record { window = p.window; gap = at.gap })) Fits OutsideInterval) WrongCount) OtherKind) e
+      other e = at.stood ∙ ap (λ b. cond b (cond (counted d.rule d.count) (cond (timed d.rule (interval_of R d.row p)) Fits OutsideInterval) WrongCount) OtherKind) e
 
       go : (x : Option Form) → Agrees R d.row p d.rule x → v ≡ node_by T R s d x
       go None a = absurd (not (other a))

@@ -1,5 +1,4 @@
-pub mod PastEnd
-pub mod Walks
+pub mod Same
 pub mod Alike
 pub mod Coded
 pub mod OwnForms

@@ -1,27 +1,37 @@
 -- Each rule as the code has it, by its number, is the form of that number in the rules' table.
-use Rattle.std.proofs.Common.{◌≡◌, ℕ, suc, ◌+◌, ◌-◌, ◌<◌, ◌≤◌, Bool, true, false, cond, not, ◌&&◌, eqb, ltb, leb, List, [], ◌∷◌, length, Some, None, Option, refl, ap, ◌∙◌, subst, inl, inr, arith}
+use Rattle.std.proofs.Common.{◌≡◌, ℕ, ◌+◌, ◌-◌, ◌<◌, ◌≤◌, Bool, true, false, cond, not, ◌&&◌, eqb, ltb, leb, List, [], ◌∷◌, length, Some, None, Option, is_some, sym, refl, ap, ◌∙◌, subst, inl, inr, arith}
+use Rattle.std.proofs.Math.Bool.{and_assoc, and-true}
 use Rattle.std.proofs.lemmas.Bool.{cases_lt, eqb-true, eqb-false, lt-leb, and_left, and_right}
 use Rattle.mtl.specs.declared.row.Row.{Row}
 use Rattle.mtl.specs.declared.line.Window.{Window}
 use Rattle.mtl.specs.declared.line.Line.{Line}
 use Rattle.mtl.specs.declared.line.Line.TheVariants.{Mark as mark, Not as neg, And as and, Or as or, Previous as previous, Next as next, Since as since, Until as until}
-use Rattle.mtl.specs.declared.ruling.Ruling.TheVariants.{Held as held, Broken as broken}
 use Rattle.mtl.specs.Checking.{form_at}
 use Rattle.mtl.specs.Forms.{Form, forms}
-use Rattle.mtl.specs.Ranges.{run, range, keep}
+use Rattle.mtl.specs.Ranges.{keep}
 use Rattle.mtl.specs.Rows.{time_at}
 use Rattle.mtl.specs.Windows.{inside, wide}
 use Rattle.mtl.specs.Lists.{AllOf}
-use Rattle.checker.specs.declared.reading.Parts.{Parts}
-use Rattle.checker.specs.declared.reading.Side.TheVariants.{Before, After}
+use Rattle.checker.specs.declared.parts.Parts.{Parts}
+use Rattle.checker.specs.declared.view.Side.TheVariants.{Before, After}
 use Rattle.checker.specs.Parts.{parts_of}
-use Rattle.proof_rules.specs.Rule.{within, of_kind}
+use Rattle.proof_rules.specs.Rule.{within, of_kind, gap_inside, gap_short, gap_long}
 use Rattle.checker.specs.Children.{rows_are, chosen}
-use Rattle.checker.proofs.Alike.{any_time, from_on, range_end}
-use Rattle.checker.proofs.Coded.{Coded, alone, and_assoc, gap_there_lem, gap_inside_lem, gap_short_lem, gap_long_lem, first_row_lem, no_child, one_child, two_children, led_form, any_form}
+use Rattle.checker.proofs.Alike.{inside_on, any_time, from_on, range_end}
+use Rattle.checker.proofs.Coded.{Coded, alone, gap_lem, first_row_lem, no_child, one_child, two_children, led_form, any_form}
 
-at : {R : List Row} {i : ℕ} {p : Parts} {f : Form} {n m : ℕ} → n ≡ m → Coded R i p n f → Coded R i p m f
-at {R = R} {i = i} {p = p} {f = f} e h = subst (λ x. Coded R i p x f) e h
+at : {R : List Row} {i : ℕ} {p : Parts} {f : Form} {n m : ℕ} → Coded R i p n f → n ≡ m → Coded R i p m f
+at {R = R} {i = i} {p = p} {f = f} h e = subst (λ x. Coded R i p x f) e h
+
+-- what `AllOf` asks of a list of so many
+two : {A B : Type 0} → A → B → A × (B × Unit {0})
+two a b = (a, (b, tt))
+
+three : {A B C : Type 0} → A → B → C → A × (B × (C × Unit {0}))
+three a b c = (a, two b c)
+
+four : {A B C D : Type 0} → A → B → C → D → A × (B × (C × (D × Unit {0})))
+four a b c d = (a, three b c d)
 
 abbrev Own : List Row → ℕ → Line → ℕ → Form → Type 0
 Own R i l n f = f.number ≡ n → Coded R i (parts_of l) n f
@@ -29,52 +39,39 @@ Own R i l n f = f.number ≡ n → Coded R i (parts_of l) n f
 module _ (R : List Row) (i n : ℕ) where
   own_mark : (m : ℕ) → AllOf (Own R i (mark m) n) (forms R i (mark m))
   unfolding forms
-  own_mark m = (
-    λ e. at e (no_child R i (parts_of (mark m)) 1 held refl refl _ (λ c. refl) (λ cs. refl) (λ cs. refl)),
-    (λ e. at e (no_child R i (parts_of (mark m)) 2 broken refl refl _ (λ c. refl) (λ cs. refl) (λ cs. refl)), tt),
-  )
+  own_mark m = two
+      (at (no_child refl refl (λ c. refl) (λ cs. refl) (λ cs. refl)))
+      (at (no_child refl refl (λ c. refl) (λ cs. refl) (λ cs. refl)))
 
   own_not : (l : ℕ) → AllOf (Own R i (neg l) n) (forms R i (neg l))
   unfolding forms
-  own_not l = (
-    λ e. at e (one_child R i (parts_of (neg l)) 3 held refl refl l i broken true (λ c. refl) (λ cs. refl) refl (λ cs. refl)),
-    (λ e. at e (one_child R i (parts_of (neg l)) 4 broken refl refl l i held true (λ c. refl) (λ cs. refl) refl (λ cs. refl)), tt),
-  )
+  own_not l = two
+      (at (one_child refl refl (λ c. refl) (λ cs. refl) refl (λ cs. refl)))
+      (at (one_child refl refl (λ c. refl) (λ cs. refl) refl (λ cs. refl)))
 
   own_and : (l r : ℕ) → AllOf (Own R i (and l r) n) (forms R i (and l r))
   unfolding forms
-  own_and l r = (
-    λ e. at e (two_children R i (parts_of (and l r)) 5 held refl refl l r held (λ c. refl) (λ cs. refl) refl (λ cs. refl)),
-    (
-      λ e. at e (one_child R i (parts_of (and l r)) 6 broken refl refl l i broken true (λ c. refl) (λ cs. refl) refl (λ cs. refl)),
-      (λ e. at e (one_child R i (parts_of (and l r)) 7 broken refl refl r i broken true (λ c. refl) (λ cs. refl) refl (λ cs. refl)), tt),
-    ),
-  )
+  own_and l r = three
+      (at (two_children refl refl (λ c. refl) (λ cs. refl) refl (λ cs. refl)))
+      (at (one_child refl refl (λ c. refl) (λ cs. refl) refl (λ cs. refl)))
+      (at (one_child refl refl (λ c. refl) (λ cs. refl) refl (λ cs. refl)))
 
   own_or : (l r : ℕ) → AllOf (Own R i (or l r) n) (forms R i (or l r))
   unfolding forms
-  own_or l r = (
-    λ e. at e (one_child R i (parts_of (or l r)) 8 held refl refl l i held true (λ c. refl) (λ cs. refl) refl (λ cs. refl)),
-    (
-      λ e. at e (one_child R i (parts_of (or l r)) 9 held refl refl r i held true (λ c. refl) (λ cs. refl) refl (λ cs. refl)),
-      (λ e. at e (two_children R i (parts_of (or l r)) 10 broken refl refl l r broken (λ c. refl) (λ cs. refl) refl (λ cs. refl)), tt),
-    ),
-  )
+  own_or l r = three
+      (at (one_child refl refl (λ c. refl) (λ cs. refl) refl (λ cs. refl)))
+      (at (one_child refl refl (λ c. refl) (λ cs. refl) refl (λ cs. refl)))
+      (at (two_children refl refl (λ c. refl) (λ cs. refl) refl (λ cs. refl)))
 
   own_previous : (w : Window) (l : ℕ) → AllOf (Own R i (previous w l) n) (forms R i (previous w l))
   unfolding forms
   own_previous w l = (
-    λ e. at e (one_child R i (parts_of (previous w l)) 11 held refl refl l (i - 1) held _ (λ c. refl) (λ cs. refl) (gap_inside_lem w d b) (λ cs. refl)),
-    (
-      λ e. at e (one_child R i (parts_of (previous w l)) 12 broken refl refl l (i - 1) broken _ (λ c. refl) (λ cs. refl) (gap_there_lem w d b) (λ cs. refl)),
-      (
-        λ e. at e (no_child R i (parts_of (previous w l)) 13 broken refl refl _ (λ c. refl) (λ cs. refl) (λ cs. alone _ _ (gap_short_lem w d b))),
-        (
-          λ e. at e (no_child R i (parts_of (previous w l)) 14 broken refl refl _ (λ c. refl) (λ cs. refl) (λ cs. alone _ _ (gap_long_lem w d b))),
-          (λ e. at e (no_child R i (parts_of (previous w l)) 15 broken refl refl _ (λ c. refl) (λ cs. refl) (λ cs. alone _ _ (first_row_lem i ∙ ap not (gap_there_lem w d b)))), tt),
-        ),
-      ),
-    ),
+    (at (one_child refl refl (λ c. refl) (λ cs. refl) (gap_lem (λ g. gap_inside (record { window = w; gap = g })) refl d b) (λ cs. refl))),
+    four
+        (at (one_child refl refl (λ c. refl) (λ cs. refl) (sym (and-true b) ∙ gap_lem is_some refl d b) (λ cs. refl)))
+        (at (no_child refl refl (λ c. refl) (λ cs. refl) (λ cs. alone _ _ (gap_lem (λ g. gap_short (record { window = w; gap = g })) refl d b))))
+        (at (no_child refl refl (λ c. refl) (λ cs. refl) (λ cs. alone _ _ (gap_lem (λ g. gap_long (record { window = w; gap = g })) refl d b))))
+        (at (no_child refl refl (λ c. refl) (λ cs. refl) (λ cs. alone _ _ (first_row_lem i ∙ ap not (sym (and-true b) ∙ gap_lem is_some refl d b))))),
   )
     where
       b : Bool
@@ -85,16 +82,11 @@ module _ (R : List Row) (i n : ℕ) where
 
   own_next : (w : Window) (l : ℕ) → AllOf (Own R i (next w l) n) (forms R i (next w l))
   unfolding forms
-  own_next w l = (
-    λ e. at e (one_child R i (parts_of (next w l)) 16 held refl refl l (i + 1) held _ (λ c. refl) (λ cs. refl) (gap_inside_lem w d b) (λ cs. refl)),
-    (
-      λ e. at e (one_child R i (parts_of (next w l)) 17 broken refl refl l (i + 1) broken true (λ c. refl) (λ cs. refl) refl (λ cs. refl)),
-      (
-        λ e. at e (no_child R i (parts_of (next w l)) 18 broken refl refl _ (λ c. refl) (λ cs. refl) (λ cs. alone _ _ (gap_short_lem w d b))),
-        (λ e. at e (no_child R i (parts_of (next w l)) 19 broken refl refl _ (λ c. refl) (λ cs. refl) (λ cs. alone _ _ (gap_long_lem w d b))), tt),
-      ),
-    ),
-  )
+  own_next w l = four
+      (at (one_child refl refl (λ c. refl) (λ cs. refl) (gap_lem (λ g. gap_inside (record { window = w; gap = g })) refl d b) (λ cs. refl)))
+      (at (one_child refl refl (λ c. refl) (λ cs. refl) refl (λ cs. refl)))
+      (at (no_child refl refl (λ c. refl) (λ cs. refl) (λ cs. alone _ _ (gap_lem (λ g. gap_short (record { window = w; gap = g })) refl d b))))
+      (at (no_child refl refl (λ c. refl) (λ cs. refl) (λ cs. alone _ _ (gap_lem (λ g. gap_long (record { window = w; gap = g })) refl d b))))
     where
       b : Bool
       b = ltb (i + 1) (length R)
@@ -104,36 +96,18 @@ module _ (R : List Row) (i n : ℕ) where
 
   own_since : (w : Window) (l r : ℕ) → AllOf (Own R i (since w l r) n) (forms R i (since w l r))
   unfolding forms
-  own_since w l r = (
-    λ e. at e (led_form R i (parts_of (since w l r)) 20 held refl refl r l held (λ j. range (j + 1) i) (λ j. chosen R Before (wide 0) i (j + 1) (i + 1)) _ 0 (suc i) (λ c. refl) (λ cs. refl)
-        (λ j. range_end (j + 1) i ∙ any_time R Before i (j + 1) (i + 1)) (λ c cs. refl)),
-    (
-      λ e. at e (led_form R i (parts_of (since w l r)) 21 broken refl refl l r broken (λ j. keep (λ k. leb w.from (time_at R i - time_at R k)) (range j i))
-          (λ j. chosen R Before (wide w.from) i j (i + 1)) _ 1 i (λ c. refl) (λ cs. refl)
-          (λ j. ap (keep (λ k. leb w.from (time_at R i - time_at R k))) (range_end j i) ∙ from_on R Before w.from i j (i + 1))
-          (λ c cs. ap (λ t. rows_are (chosen R Before (wide w.from) i c.row (i + 1)) cs && t) (and_assoc (leb 1 c.row) (leb c.row i) _))),
-      (
-        λ e. at e (any_form R i (parts_of (since w l r)) 22 broken refl refl r broken _ (chosen R Before w i 0 (i + 1)) _ (λ c. refl) (λ cs. refl)
-            (ap (keep (λ k. inside w (time_at R i - time_at R k))) (range_end 0 i)) (λ cs. refl)),
-        (λ e. at e (no_child R i (parts_of (since w l r)) 23 broken refl refl _ (λ c. refl) (λ cs. refl) (λ cs. refl)), tt),
-      ),
-    ),
-  )
+  own_since w l r = four
+      (at (led_form refl refl (λ j. chosen R Before (wide 0) i (j + 1) (i + 1)) (λ c. refl) (λ cs. refl) (λ j. range_end (j + 1) i ∙ any_time R Before i (j + 1) (i + 1)) (λ c cs. refl)))
+      (at (led_form refl refl (λ j. chosen R Before (wide w.from) i j (i + 1)) (λ c. refl) (λ cs. refl) (λ j. ap (keep (λ k. leb w.from (time_at R i - time_at R k))) (range_end j i) ∙ from_on R Before i j (i + 1) w.from) (λ c cs. ap (λ t. rows_are (chosen R Before (wide w.from) i c.row (i + 1)) cs && t) (and_assoc (leb 1 c.row) (leb c.row i) _))))
+      (at (any_form refl refl (chosen R Before w i 0 (i + 1)) (λ c. refl) (λ cs. refl) (ap (keep (λ k. inside w (time_at R i - time_at R k))) (range_end 0 i) ∙ inside_on R Before i 0 (i + 1) w) (λ cs. refl)))
+      (at (no_child refl refl (λ c. refl) (λ cs. refl) (λ cs. refl)))
 
   own_until : (w : Window) (l r : ℕ) → AllOf (Own R i (until w l r) n) (forms R i (until w l r))
   unfolding forms
-  own_until w l r = (
-    λ e. at e (led_form R i (parts_of (until w l r)) 24 held refl refl r l held (λ j. run i (j - i)) (λ j. chosen R After (wide 0) i i j) _ i (length R - i) (λ c. refl) (λ cs. refl)
-        (λ j. any_time R After i i j)
-        (λ c cs. ap (λ t. rows_are (chosen R After (wide 0) i i c.row) cs && t) (and_assoc (leb i c.row) (ltb c.row (length R)) _))),
-    (
-      λ e. at e (led_form R i (parts_of (until w l r)) 25 broken refl refl l r broken (λ j. keep (λ k. leb w.from (time_at R k - time_at R i)) (range i j))
-          (λ j. chosen R After (wide w.from) i i (j + 1)) _ i (length R - i) (λ c. refl) (λ cs. refl)
-          (λ j. ap (keep (λ k. leb w.from (time_at R k - time_at R i))) (range_end i j) ∙ from_on R After w.from i i (j + 1))
-          (λ c cs. ap (λ t. rows_are (chosen R After (wide w.from) i i (c.row + 1)) cs && t) (and_assoc (leb i c.row) (ltb c.row (length R)) _))),
-      (λ e. at e (any_form R i (parts_of (until w l r)) 26 broken refl refl r broken _ (chosen R After w i i (length R)) _ (λ c. refl) (λ cs. refl) refl (λ cs. refl)), tt),
-    ),
-  )
+  own_until w l r = three
+      (at (led_form refl refl (λ j. chosen R After (wide 0) i i j) (λ c. refl) (λ cs. refl) (λ j. any_time R After i i j) (λ c cs. ap (λ t. rows_are (chosen R After (wide 0) i i c.row) cs && t) (and_assoc (leb i c.row) (ltb c.row (length R)) _))))
+      (at (led_form refl refl (λ j. chosen R After (wide w.from) i i (j + 1)) (λ c. refl) (λ cs. refl) (λ j. ap (keep (λ k. leb w.from (time_at R k - time_at R i))) (range_end i j) ∙ from_on R After i i (j + 1) w.from) (λ c cs. ap (λ t. rows_are (chosen R After (wide w.from) i i (c.row + 1)) cs && t) (and_assoc (leb i c.row) (ltb c.row (length R)) _))))
+      (at (any_form refl refl (chosen R After w i i (length R)) (λ c. refl) (λ cs. refl) (inside_on R After i i (length R) w) (λ cs. refl)))
 
   own : (l : Line) → AllOf (Own R i l n) (forms R i l)
   own (mark m) = own_mark m

@@ -1,22 +1,22 @@
 -- The children's lines, rulings and rows.
-use Rattle.std.specs.Prelude.{ℕ, ◌-◌, Bool, true, false, cond, ◌&&◌, ◌||◌, List, [], ◌∷◌, ◌==◌}
+use Rattle.std.specs.Prelude.{ℕ, ◌-◌, Bool, true, false, cond, ◌&&◌, ◌||◌, List, [], ◌∷◌, map, filter, ◌==◌, nat_eq}
+use Rattle.std.specs.List.{list_all, range_with_len}
+use Rattle.std.specs.Cmp.Lexicographic.{pointwise}
 use Rattle.mtl.specs.declared.row.Row.{Row}
 use Rattle.mtl.specs.declared.line.Window.{Window}
 use Rattle.mtl.specs.declared.ruling.Claim.{Claim}
 use Rattle.mtl.specs.declared.ruling.Ruling.{Ruling}
 use Rattle.mtl.specs.declared.ruling.Ruling.TheVariants.{Held, Broken}
 use Rattle.mtl.specs.Claims.{same_ruling}
-use Rattle.mtl.specs.Ranges.{run, keep}
 use Rattle.mtl.specs.Windows.{inside}
-use Rattle.checker.specs.declared.reading.Side.{Side}
+use Rattle.checker.specs.declared.view.Side.{Side}
 use Rattle.checker.specs.Parts.{between}
 
 abbrev pub is_of : ℕ → Ruling → Claim → Bool
 is_of n r c = n == c.line && same_ruling r c.ruling
 
 abbrev pub all_of : ℕ → Ruling → List Claim → Bool
-all_of n r [] = true
-all_of n r (c ∷ cs) = is_of n r c && all_of n r cs
+all_of n r cs = list_all (is_of n r) cs
 
 -- the first is of line a, the others of line b, all ruled r
 abbrev pub first_then_of : ℕ → ℕ → Ruling → List Claim → Bool
@@ -35,19 +35,15 @@ lines_shown n left right cs =
     (cond (n == 20 || n == 24) (first_then_of right left Held cs) true))))))
 
 abbrev pub all_at : ℕ → List Claim → Bool
-all_at i [] = true
-all_at i (c ∷ cs) = i == c.row && all_at i cs
+all_at i cs = list_all (λ c. i == c.row) cs
 
 -- the children stand at these rows, one each and in order
 abbrev pub rows_are : List ℕ → List Claim → Bool
-rows_are [] [] = true
-rows_are [] (c ∷ cs) = false
-rows_are (k ∷ ks) [] = false
-rows_are (k ∷ ks) (c ∷ cs) = k == c.row && rows_are ks cs
+rows_are ks cs = pointwise nat_eq ks (map (λ c. c.row) cs)
 
 -- of the rows from first to before end, those whose difference from row i is inside
 abbrev pub chosen : List Row → Side → Window → ℕ → ℕ → ℕ → List ℕ
-chosen R side w i first end = keep (λ k. inside w (between R side i k)) (run first (end - first))
+chosen R side w i first end = filter (λ k. inside w (between R side i k)) (range_with_len first (end - first))
 
 -- what is asked of the first child's row and of the others
 abbrev pub led : (ℕ → List Claim → Bool) → List Claim → Bool

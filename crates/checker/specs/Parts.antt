@@ -8,9 +8,10 @@ use Rattle.mtl.specs.declared.line.Kind.{Kind}
 use Rattle.mtl.specs.declared.line.Kind.TheVariants.{Mark, Not, And, Or, Previous, Next, Since, Until}
 use Rattle.mtl.specs.Rows.{time_at}
 use Rattle.mtl.specs.Windows.{wide}
-use Rattle.checker.specs.declared.reading.Parts.{Parts}
-use Rattle.checker.specs.declared.reading.Side.{Side}
-use Rattle.checker.specs.declared.reading.Side.TheVariants.{Before, After}
+use Rattle.proof_rules.specs.declared.standing.Interval.{Interval}
+use Rattle.checker.specs.declared.parts.Parts.{Parts}
+use Rattle.checker.specs.declared.view.Side.{Side}
+use Rattle.checker.specs.declared.view.Side.TheVariants.{Before, After}
 
 abbrev pub parts_in : Kind → Window → ℕ → ℕ → Parts
 parts_in k w l r = record { kind = k; window = w; left = l; right = r }
@@ -40,3 +41,7 @@ beside R Previous i = cond (nat_lt 0 i) (Some (time_at R i - time_at R (i - 1)))
 beside R Next i = cond (nat_lt (i + 1) (length R)) (Some (time_at R (i + 1) - time_at R i)) None
 beside R Since i = None
 beside R Until i = None
+
+-- that interval, against the line's window
+abbrev pub interval_of : List Row → ℕ → Parts → Interval
+interval_of R i p = record { window = p.window; gap = beside R p.kind i }

@@ -5,8 +5,8 @@ use Rattle.mtl.specs.declared.line.Window.{Window}
 use Rattle.mtl.specs.declared.ruling.Claim.{Claim}
 use Rattle.mtl.specs.Rows.{row_at, stands}
 use Rattle.mtl.specs.Windows.{inside, up_to, past, wide}
-use Rattle.checker.specs.declared.reading.Parts.{Parts}
-use Rattle.checker.specs.declared.reading.Side.TheVariants.{Before, After}
+use Rattle.checker.specs.declared.parts.Parts.{Parts}
+use Rattle.checker.specs.declared.view.Side.TheVariants.{Before, After}
 use Rattle.checker.specs.Parts.{between}
 use Rattle.proof_rules.specs.Rule.{within}
 use Rattle.checker.specs.Children.{all_at, rows_are, chosen, led}

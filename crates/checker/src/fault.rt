@@ -2,7 +2,7 @@
 mod telling;
 
 // The first question that is answered no; the node is counted from 0.
-#[derive(Clone, Copy, Debug, PartialEq)]
+#[derive(Clone, Copy, Debug, PartialEq, Eq)]
 pub enum CheckFault {
     // The bytes are none, or no multiple of six.
     NotWholeNodes,
@@ -24,4 +24,11 @@ pub enum CheckFault {
     ConditionNotMet { node: usize },
     // After the last node, not exactly one subtree is waiting.
     NotOneLeft { nodes: usize },
+}
+
+// A refusal in numbers: the question that is answered no, and the node; 0 before any node, and after the last how many there were.
+#[derive(Clone, Copy, Debug, PartialEq, Eq)]
+pub struct RefusedAt {
+    pub number: u8,
+    pub node: usize,
 }

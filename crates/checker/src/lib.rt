@@ -2,7 +2,7 @@
 #![tactic(auto)]
 
 pub mod check;
-mod children;
 pub mod fault;
-mod node;
-mod reading;
+mod judge;
+mod parts;
+mod view;

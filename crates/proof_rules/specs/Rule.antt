@@ -1,5 +1,6 @@
 -- The rules by their numbers.
-use Rattle.std.specs.Prelude.{ℕ, Bool, true, false, cond, not, ◌&&◌, ◌||◌, Some, None, Option, ◌==◌, nat_le, nat_lt}
+use Rattle.std.specs.Prelude.{ℕ, Bool, true, false, cond, not, ◌&&◌, ◌||◌, is_some, ◌==◌, nat_le, nat_lt}
+use Rattle.std.specs.Option.{option_map_or}
 use Rattle.mtl.specs.declared.line.Window.{Window}
 use Rattle.mtl.specs.declared.line.Kind.{Kind}
 use Rattle.mtl.specs.declared.line.Kind.TheVariants.{Mark, Not, And, Or, Previous, Next, Since, Until}
@@ -32,34 +33,18 @@ counted n count =
     (cond (within 20 21 n || within 24 25 n) (nat_le 1 count)
     (cond (n == 22 || n == 26) true (count == 1))))
 
-abbrev there : Option ℕ → Bool
-there (Some d) = true
-there None = false
-
-abbrev short_of : Window → Option ℕ → Bool
-short_of w (Some d) = nat_lt d w.from
-short_of w None = false
-
-abbrev inside_of : Window → Option ℕ → Bool
-inside_of w (Some d) = inside w d
-inside_of w None = false
-
-abbrev long_of : Window → Option ℕ → Bool
-long_of w (Some d) = past w.to d
-long_of w None = false
-
 -- there is a row beside; its difference is inside the window, below its start, past its end
 abbrev pub gap_there : Interval → Bool
-gap_there v = there v.gap
+gap_there v = is_some v.gap
 
 abbrev pub gap_inside : Interval → Bool
-gap_inside v = inside_of v.window v.gap
+gap_inside v = option_map_or (inside v.window) v.gap false
 
 abbrev pub gap_short : Interval → Bool
-gap_short v = short_of v.window v.gap
+gap_short v = option_map_or (λ d. nat_lt d v.window.from) v.gap false
 
 abbrev pub gap_long : Interval → Bool
-gap_long v = long_of v.window v.gap
+gap_long v = option_map_or (past v.window.to) v.gap false
 
 -- what rule n asks of the interval to the row beside
 abbrev pub timed : ℕ → Interval → Bool

@@ -16,32 +16,24 @@ impl Interval {
     fn inside(&self) -> bool
         ensures { result ≡ gap_inside self.now }
     {
-        match self.gap {
-            Some(gap) => self.window.inside(gap),
-            None => false,
-        }
+        self.gap.is_some_and(|gap| self.window.inside(gap))
     }
 
     fn short(&self) -> bool
         ensures { result ≡ gap_short self.now }
     {
-        match self.gap {
-            Some(gap) => gap < self.window.from,
-            None => false,
-        }
+        self.gap.is_some_and(|gap| gap < self.window.from)
     }
 
     fn long(&self) -> bool
         ensures { result ≡ gap_long self.now }
     {
-        match self.gap {
-            Some(gap) => self.window.beyond(gap),
-            None => false,
-        }
+        self.gap.is_some_and(|gap| self.window.beyond(gap))
     }
 }
 
-// How a node stands with its rule.
+// How a node stands with its rule. The rules go by their numbers, as certificates have them: one match over all 26,
+// a wanted form (docs/DECISIONS.md).
 pub fn stand(rule: u8, kind: Kind, count: u16, interval: Interval) -> Standing
     ensures { result ≡ standing kind rule count interval }
 {

@@ -9,7 +9,8 @@ pub struct Interval {
 }
 
 // How a node stands with its rule, as far as the line's kind, the count and the interval tell.
-#[derive(Clone, Copy, Debug, PartialEq)]
+// No Result: Check asks about each of these at its own place among its questions, so `?` passes none of them on.
+#[derive(Clone, Copy, Debug, PartialEq, Eq)]
 pub enum Standing {
     OtherKind,
     WrongCount,

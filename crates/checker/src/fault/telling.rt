@@ -1,15 +1,14 @@
 // The number and the node of a refusal.
-ghost use Rattle.std.specs.Prelude.{◌≡◌};
-ghost use Rattle.checker.specs.Told.{fault_told};
+use crate::fault::{CheckFault, RefusedAt};
 
-use crate::fault::CheckFault;
+impl From<CheckFault> for RefusedAt {
+    ghost use Rattle.std.specs.Prelude.{◌≡◌};
+    ghost use Rattle.checker.specs.Told.{fault_told};
 
-impl CheckFault {
-    // The question that is answered no, and the node that is told.
-    pub fn told(self) -> (u8, usize)
-        ensures { result ≡ fault_told self }
-    {
-        match self {
+    ghost from_gives = { λ fault at. (at.number ≡ (fault_told fault).0) × (at.node ≡ (fault_told fault).1) };
+
+    fn from(fault: CheckFault) -> RefusedAt {
+        let (number, node) = match fault {
             CheckFault::NotWholeNodes => (11, 0),
             CheckFault::TooLong => (12, 0),
             CheckFault::StackTooShort => (13, 0),
@@ -20,6 +19,7 @@ impl CheckFault {
             CheckFault::WrongChild { node } => (18, node),
             CheckFault::ConditionNotMet { node } => (19, node),
             CheckFault::NotOneLeft { nodes } => (20, nodes),
-        }
+        };
+        RefusedAt { number, node }
     }
 }

@@ -2,13 +2,13 @@ use Rattle.std.proofs.Common.{◌≡◌, ◌+◌, ◌*◌, ◌≤◌, [], length
 use Rattle.mtl.specs.Bytes.{nodes}
 use Rattle.mtl.specs.Checking.{checks}
 use Rattle.mtl.specs.Tables.{lines_of}
-use Rattle.checker.proofs.check.walk.Given as goal
+use Rattle.checker.proofs.judge.Judge.walk.Given as goal
 
 -- what is left gives the whole answer, and the stack has room for it
 abbrev pub invariant-loop-left : goal.invariant-loop-left
 invariant-loop-left g l =
-    (checks (lines_of l.table) (g.L.Readable.rows l.log) (take l.top l.stack) (nodes l.left) l.at
-    ≡ checks (lines_of l.table) (g.L.Readable.rows l.log) [] (nodes l.certificate) 0)
+    (checks (lines_of l.self.table.now) (g.L.Readable.rows l.self.log.now) (take l.top l.stack) (nodes l.left) l.at
+    ≡ checks (lines_of l.self.table.now) (g.L.Readable.rows l.self.log.now) [] (nodes l.certificate) 0)
     × (l.top ≤ l.at)
     × (6 * l.at + length l.left ≡ length l.certificate)
     × (length l.stack ≡ length l.initial.stack)
