@@ -1,5 +1,6 @@
 -- Running sums of cells, and the least of ways in any order of passing.
 use Rattle.std.proofs.Common.{◌≡◌, ℕ, zero, suc, ◌+◌, ◌-◌, ◌<◌, ◌≤◌, min, Bool, true, false, cond, not, T as Yes, leb, List, [], ◌∷◌, ◌++◌, sym, refl, ap, ◌∙◌, ap₂, arith, leb→le}
+use Rattle.std.proofs.lemmas.List.{map-append, append-nil}
 use lib.Dec.{nleb→lt}
 use Rattle.mtl.specs.Cells.{sum_cells, add_cell}
 use Rattle.mtl.specs.Claims.{each}
@@ -137,10 +138,6 @@ keep_back p (y ∷ xs) x = go (p y) (keep_back p xs x)
     go true e = ap (λ zs. y ∷ zs) e
     go false e = e
 
-each_back : (r : Ruling) (l : ℕ) (xs ys : List ℕ) → each r l (xs ++ ys) ≡ each r l xs ++ each r l ys
-each_back r l [] ys = refl
-each_back r l (x ∷ xs) ys = ap (λ zs. Of r l x ∷ zs) (each_back r l xs ys)
-
 -- the running sum: one row more among the children, if it is one of them
 pub sum_down : (g : Claim → ℕ) (r : Ruling) (l : ℕ) (p : ℕ → Bool) (j n end s : ℕ) → n ≡ suc j → j < end →
     s ≡ sum_cells g 1 (each r l (keep p (run n (end - n)))) → add_if (p j) s (g (Of r l j)) ≡ sum_cells g 1 (each r l (keep p (run j (end - j))))
@@ -159,20 +156,16 @@ pub sum_up : (g : Claim → ℕ) (r : Ruling) (l : ℕ) (p : ℕ → Bool) (a j 
 sum_up g r l p a j n s e h k =
     let q : n - a ≡ suc (j - a) = omega arith in
     let m : a + (j - a) ≡ j = omega arith in
-    ap (λ x. add_if (p j) x (g (Of r l j))) k ∙ go (p j) ∙ ap (sum_cells g 1) (sym (each_back r l (keep p (run a (j - a))) (cond (p j) (j ∷ []) []))) ∙
+    ap (λ x. add_if (p j) x (g (Of r l j))) k ∙ go (p j) ∙ ap (sum_cells g 1) (sym (map-append (Of r l) (keep p (run a (j - a))) (cond (p j) (j ∷ []) []))) ∙
     ap (λ xs. sum_cells g 1 (each r l xs)) (sym (keep_back p (run a (j - a)) j)) ∙
     ap (λ xs. sum_cells g 1 (each r l (keep p xs))) (ap (λ x. run a (j - a) ++ (x ∷ [])) (sym m) ∙ sym (run_back a (j - a)) ∙ ap (run a) (sym q))
   where
     ks : List Claim
     ks = each r l (keep p (run a (j - a)))
 
-    nil : (xs : List Claim) → xs ≡ xs ++ []
-    nil [] = refl
-    nil (x ∷ xs) = ap (λ zs. x ∷ zs) (nil xs)
-
     go : (b : Bool) → add_if b (sum_cells g 1 ks) (g (Of r l j)) ≡ sum_cells g 1 (ks ++ each r l (cond b (j ∷ []) []))
     go true = sym (sum_snoc g 1 ks (Of r l j))
-    go false = ap (sum_cells g 1) (nil ks)
+    go false = ap (sum_cells g 1) (sym (append-nil ks))
 
 pub keep_all : (xs : List ℕ) → keep (λ _. true) xs ≡ xs
 unfolding keep

@@ -1,5 +1,5 @@
 -- What Settle answers, by its questions, and what it leaves in its buffers.
-use Rattle.std.proofs.Common.{◌≡◌, ℕ, zero, suc, ◌*◌, ◌<◌, ◌≤◌, min, Bool, true, false, ◌&&◌, ltb, leb, List, [], ◌∷◌, length, Some, None, Ok, Err, Option, Result, sym, refl, ap, ◌∙◌, subst, ap₂, arith}
+use Rattle.std.proofs.Common.{◌≡◌, ℕ, zero, suc, ◌+◌, ◌*◌, ◌<◌, ◌≤◌, min, Bool, true, false, ◌&&◌, ltb, leb, List, [], ◌∷◌, length, Some, None, Ok, Err, Option, Result, sym, refl, ap, ◌∙◌, subst, ap₂, arith}
 use native.Mathlib.Decide.{dec_lt}
 use Rattle.std.proofs.lemmas.Bool.{lt-ltb, le-ltb, le-leb, lt-leb}
 use Rattle.mtl.specs.Questions.{first_no, answer}
@@ -34,39 +34,45 @@ pub record Found (T : Rules) (R : List Row) (n i : ℕ) (s : Settled) (d : Settl
 
 -- the two cells tell whether there is a certificate, and which
 module _ (T : Rules) (R : List Row) (n i : ℕ) where
-  pub open_is : (least_of (cell_of T R (Held n i)) (cell_of T R (Broken n i))).size ≡ 0 → WellFormed T → settlement T R n i ≡ None
+  pub open_is : least_of (cell_of T R (Held n i)) (cell_of T R (Broken n i)) ≡ None → WellFormed T → settlement T R n i ≡ None
   unfolding settlement
   open_is e wf = go (certificate T R (Held n i)) (certificate T R (Broken n i)) (nonempty T wf R (Held n i)) (nonempty T wf R (Broken n i)) e
     where
-      absent : (a b : ℕ) → 1 ≤ a → (least_of a b).size ≡ 0 → ⊥
-      absent zero b h e = absurd (omega arith)
-      absent (suc a) b h e = absurd (omega arith)
+      absent : (a b : ℕ) → 1 ≤ a + b → least_of a b ≡ None → ⊥
+      absent zero zero h e = omega arith
+      absent zero (suc b) h e = cc
+      absent (suc a) b h e = cc
 
-      go : (o p : Option (List Node)) → Filled o → Filled p → (least_of (cell o) (cell p)).size ≡ 0 → one_of o p ≡ None
+      go : (o p : Option (List Node)) → Filled o → Filled p → least_of (cell o) (cell p) ≡ None → one_of o p ≡ None
       go (Some a) p f g e = absurd (absent (min (length a) 4097) (cell p) (omega arith) e)
-      go None (Some b) f g e = absurd (omega arith)
+      go None (Some b) f g e = absurd (absent 0 (min (length b) 4097) (omega arith) e)
       go None None f g e = refl
 
-  pub found_is : 1 ≤ (least_of (cell_of T R (Held n i)) (cell_of T R (Broken n i))).size → WellFormed T →
-      (d : Settlement) × Found T R n i (least_of (cell_of T R (Held n i)) (cell_of T R (Broken n i))) d
+  pub found_is : (s : Settled) → least_of (cell_of T R (Held n i)) (cell_of T R (Broken n i)) ≡ Some s → WellFormed T → (d : Settlement) × Found T R n i s d
   unfolding settlement
-  found_is h wf = go (certificate T R (Held n i)) (certificate T R (Broken n i)) refl refl (nonempty T wf R (Held n i)) h
+  found_is s h wf = go (certificate T R (Held n i)) (certificate T R (Broken n i)) refl refl (nonempty T wf R (Held n i)) h
     where
-      at : (a : ℕ) (ns : List Node) (p : Option (List Node)) → a ≡ min (length ns) 4097 → 1 ≤ a → certificate T R (Held n i) ≡ Some ns →
-          (d : Settlement) × Found T R n i (least_of a (cell_of T R (Broken n i))) d
-      at zero ns p e l q = absurd (omega arith)
-      at (suc a) ns p e l q =
+      at : (a : ℕ) (ns : List Node) → a ≡ min (length ns) 4097 → 1 ≤ a → certificate T R (Held n i) ≡ Some ns → least_of a (cell_of T R (Broken n i)) ≡ Some s →
+          (d : Settlement) × Found T R n i s d
+      at zero ns e l q k = absurd (omega arith)
+      at (suc a) ns e l q k =
+          let z : record { ruling = held; size = suc a } ≡ s = cc in
+          subst (λ s. (d : Settlement) × Found T R n i s d) z
           (record { ruling = held; proof = ns }, record { is = ap (λ o. one_of o (certificate T R (Broken n i))) q; ruled = refl; size = sym e; made = q })
 
+      by : (b : ℕ) (ns : List Node) → b ≡ min (length ns) 4097 → certificate T R (Held n i) ≡ None → certificate T R (Broken n i) ≡ Some ns → least_of 0 b ≡ Some s →
+          (d : Settlement) × Found T R n i s d
+      by zero ns e p q k = absurd (cc)
+      by (suc b) ns e p q k =
+          let z : record { ruling = broken; size = suc b } ≡ s = cc in
+          subst (λ s. (d : Settlement) × Found T R n i s d) z
+          (record { ruling = broken; proof = ns }, record { is = ap₂ one_of p q; ruled = refl; size = sym e; made = q })
+
       go : (o p : Option (List Node)) → certificate T R (Held n i) ≡ o → certificate T R (Broken n i) ≡ p → Filled o →
-          1 ≤ (least_of (cell_of T R (Held n i)) (cell_of T R (Broken n i))).size →
-          (d : Settlement) × Found T R n i (least_of (cell_of T R (Held n i)) (cell_of T R (Broken n i))) d
-      go (Some ns) p q r f h = at (cell_of T R (Held n i)) ns p (ap cell q) (subst (λ o. 1 ≤ cell o) (sym q) (omega arith)) q
-      go None None q r f h = let z : (least_of (cell_of T R (Held n i)) (cell_of T R (Broken n i))).size ≡ 0 = ap₂ (λ a b. (least_of (cell a) (cell b)).size) q r in absurd (omega arith)
-      go None (Some ns) q r f h =
-          let z : cell_of T R (Held n i) ≡ 0 = ap cell q in
-          subst (λ a. (d : Settlement) × Found T R n i (least_of a (cell_of T R (Broken n i))) d) (sym z)
-          (record { ruling = broken; proof = ns }, record { is = ap₂ one_of q r; ruled = refl; size = sym (ap cell r); made = r })
+          least_of (cell_of T R (Held n i)) (cell_of T R (Broken n i)) ≡ Some s → (d : Settlement) × Found T R n i s d
+      go (Some ns) p q r f h = let e : cell_of T R (Held n i) ≡ min (length ns) 4097 = ap cell q in at (cell_of T R (Held n i)) ns e (omega arith) q h
+      go None None q r f h = let z : least_of 0 0 ≡ Some s = sym (ap₂ (λ a b. least_of (cell a) (cell b)) q r) ∙ h in absurd (cc)
+      go None (Some ns) q r f h = by (cell_of T R (Broken n i)) ns (ap cell r) q r (sym (ap (λ a. least_of (cell a) (cell_of T R (Broken n i))) q) ∙ h)
 
   module _ (ls : Lengths) where
     abbrev asks : Option Settlement → Bool → Bool → Bool → Result Settled ℕ

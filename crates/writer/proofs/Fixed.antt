@@ -21,9 +21,6 @@ one b s p = sym (ap (λ x. merge x none) (offer_tight b s p) ∙ offer_tight b s
 two : (b : Bool) (s p : ℕ) (x y : Best) → x ≡ y → merge (offer b s p) x ≡ merge (merge (offer b s p) none) y
 two b s p x y e = ap₂ merge (sym (offer_tight b s p)) e
 
-no_way : (b : Bool) (s p : ℕ) → b ≡ false → merge (offer b s p) none ≡ none
-no_way b s p e = ap (λ x. merge (offer x s p) none) e
-
 module _ (g : Claim → ℕ) (R : List Row) (i : ℕ) where
   pub mark_held : (m : ℕ) → offer (stands (row_at R i) m) 1 (256 * 1 + 0) ≡ of_forms g held (forms R i (Mark m))
   unfolding forms of_forms of_ways run sum_cells

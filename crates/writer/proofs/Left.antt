@@ -63,3 +63,10 @@ module _ (T : Rules) (R : List Row) (n i : ℕ) (sizes sizes' plan plan' : List 
 pub promised : (T : Rules) → WellFormed T → (R : List Row) → NeverFalls R → (n i : ℕ) (ls : Lengths) (a : Result Settled ℕ) (sizes sizes' plan plan' out out' : List ℕ) →
     a ≡ settle_answer T R n i ls → Fills T R n i a sizes sizes' plan plan' out out' → SettleSays T R n i ls a (wrote a out')
 promised T wf R up n i ls a sizes sizes' plan plan' out out' e f = settle_says T wf R up n i ls a (wrote a out') (sym e) f.written
+
+-- the three promises of an early refusal
+pub refused : (T : Rules) → WellFormed T → (R : List Row) → NeverFalls R → (n i q : ℕ) (ls : Lengths) (sizes plan out : List ℕ) → early (Err q) ≡ true → Err q ≡ settle_answer T R n i ls →
+    (Err q ≡ settle_answer T R n i ls) × Fills T R n i (Err q) sizes sizes plan plan out out × SettleSays T R n i ls (Err q) (wrote (Err q) out)
+refused T wf R up n i q ls sizes plan out e a =
+    let f = left_alone T R n i q sizes plan out e in
+    (a, f, promised T wf R up n i ls (Err q) sizes sizes plan plan out out a f)

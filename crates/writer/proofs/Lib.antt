@@ -5,6 +5,8 @@ pub mod Fixed
 pub mod Stored
 pub mod Right
 pub mod Outside
+pub mod PassSince
+pub mod PassUntil
 pub mod Found
 pub mod Making
 pub mod Taking
@@ -15,7 +17,8 @@ pub mod Named
 pub mod Joined
 pub mod Stepping
 pub mod Turns
-pub mod Copied
 pub mod Asking
 pub mod Left
 pub mod Sizing
+pub mod Ends
+pub mod Sized

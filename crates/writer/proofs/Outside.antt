@@ -1,5 +1,5 @@
 -- Times never fall, so the rows inside a window stand together: what lies past it adds nothing.
-use Rattle.std.proofs.Common.{◌≡◌, ℕ, zero, suc, ◌+◌, ◌-◌, ◌*◌, ◌<◌, ◌≤◌, Bool, true, false, cond, ◌&&◌, T as Yes, leb, List, [], ◌∷◌, ◌++◌, Some, None, Option, sym, refl, ap, ◌∙◌, subst, ap₂, append-nil, arith, ltb→lt, lt→ltb, leb→le}
+use Rattle.std.proofs.Common.{◌≡◌, ℕ, zero, suc, ◌+◌, ◌-◌, ◌*◌, ◌<◌, ◌≤◌, Bool, true, false, cond, ◌&&◌, T as Yes, leb, List, [], ◌∷◌, ◌++◌, Some, None, Option, sym, refl, ap, ◌∙◌, subst, ap₂, append-nil, arith, ltb→lt, leb→le}
 use Rattle.mtl.specs.Cells.{sum_cells, add_cell}
 use Rattle.mtl.specs.Claims.{each}
 use Rattle.mtl.specs.Forms.{Form}
@@ -10,11 +10,7 @@ use Rattle.mtl.specs.declared.ruling.Claim.{Claim}
 use Rattle.mtl.specs.declared.ruling.Ruling.{Ruling}
 use Rattle.writer.specs.Choice.{none, merge, offer, add_if, way_by, of_ways}
 use Rattle.writer.proofs.Adding.{ways_front, ways_back, ways_tight, run_front, run_back, keep_back, keep_all, sum_down, sum_up, sum_cons, Of}
-use Rattle.writer.proofs.Offers.{true_of, false_of}
-
-pub past_more : (o : Option ℕ) (d e : ℕ) → d ≤ e → past o d ≡ true → past o e ≡ true
-past_more None d e h p = p
-past_more (Some b) d e h p = let z = ltb→lt b d (subst Yes (sym p) tt) in true_of _ (lt→ltb b e (omega arith))
+use Rattle.writer.proofs.Offers.{false_of}
 
 pub past_not : (o : Option ℕ) (d : ℕ) → past o d ≡ true → up_to o d ≡ false
 past_not None d p = sym p

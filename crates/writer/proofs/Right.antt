@@ -3,7 +3,7 @@ use Rattle.std.proofs.Common.{◌≡◌, ℕ, zero, suc, ◌+◌, ◌*◌, ◌<�
 use lib.Dec.{nleb→lt}
 use native.Mathlib.Decide.{dec_lt}
 use Rattle.mtl.specs.Cells.{add_cell, lower_cell, sum_cells, best_cell, first_of}
-use Rattle.mtl.specs.Claims.{claim, each, Held, Broken, same_ruling}
+use Rattle.mtl.specs.Claims.{claim, each, same_ruling}
 use Rattle.mtl.specs.Forms.{Step, by, guard, for_each, Form, forms, ways_of, ways_in, steps}
 use Rattle.mtl.specs.Lines.{Rules, line_at, WellFormed}
 use Rattle.mtl.specs.Ranges.{run}
@@ -16,11 +16,11 @@ use Rattle.mtl.specs.declared.ruling.Ruling.TheVariants.{Held as held, Broken as
 use Rattle.mtl.proofs.Filled.{cell_at}
 use Rattle.mtl.specs.Lists.{AllOf}
 use Rattle.mtl.proofs.Operands.{Earlier, earlier_at}
-use Rattle.writer.specs.Choice.{Best, none, merge, choice, offer, way_by, of_ways, of_forms, cell_in}
+use Rattle.writer.specs.Choice.{Best, none, merge, choice, offer, way_by, of_ways, of_forms, cell_in, place}
 use Rattle.writer.specs.Tables.{best_by, cell_of, size_at, code_at, filled}
 use Rattle.writer.proofs.Offers.{true_of}
-use Rattle.writer.proofs.Reading.{read_held, read_broken, read_none}
-use Rattle.writer.proofs.Stored.{filled_get, held_claim, broken_claim}
+use Rattle.writer.proofs.Reading.{read_at, read_none}
+use Rattle.writer.proofs.Stored.{filled_get, claim_of}
 use Rattle.mtl.specs.Buffers.{claim_at}
 
 pub best_in : (g : Claim → ℕ) (T : Rules) (R : List Row) (n i : ℕ) (r : Ruling) → n < length T → i < length R →
@@ -165,23 +165,13 @@ best_size g T R c = go (ltb c.line (length T)) (ltb c.row (length R))
     go false b = refl
 
 -- a claim's cell in a table that is filled beyond it
-read_filled : (f : ℕ → ℕ) (p : ℕ) (s old : List ℕ) → s ≡ filled f p old → (k : Claim) → k.row < 128 → 256 * k.line + 256 ≤ p → (q : ℕ) × (cell_in s k ≡ f q) × (claim_at q ≡ k)
-read_filled f p s old e k h l = at k.ruling refl
+read_filled : (f : ℕ → ℕ) (p : ℕ) (s old : List ℕ) → s ≡ filled f p old → (k : Claim) → k.row < 128 → 256 * k.line + 256 ≤ p → (cell_in s k ≡ f (place k)) × (claim_at (place k) ≡ k)
+read_filled f p s old e k h l =
+    (sym (read_at s k h) ∙ ap (λ x. get_or x (place k) 0) e ∙ filled_get f p (place k) old (low k.ruling), claim_of k h)
   where
-    at : (r : Ruling) → k.ruling ≡ r → (q : ℕ) × (cell_in s k ≡ f q) × (claim_at q ≡ k)
-    at held u =
-        let same = ap (λ x. claim k.line k.row x) u in (
-          256 * k.line + 2 * k.row,
-          ap (cell_in s) same ∙ sym (read_held s k.line k.row h) ∙ ap (λ x. get_or x (256 * k.line + 2 * k.row) 0) e ∙ filled_get f p (256 * k.line + 2 * k.row) old (omega arith),
-          held_claim k.line k.row h ∙ sym same,
-        )
-    at broken u =
-        let same = ap (λ x. claim k.line k.row x) u in
-        let z : 256 * k.line + (2 * k.row + 1) ≡ suc (256 * k.line + 2 * k.row) = omega arith in (
-          suc (256 * k.line + 2 * k.row),
-          ap (cell_in s) same ∙ sym (read_broken s k.line k.row h) ∙ ap₂ (λ x y. get_or x y 0) e z ∙ filled_get f p (suc (256 * k.line + 2 * k.row)) old (omega arith),
-          broken_claim k.line k.row h ∙ sym same,
-        )
+    low : (r : Ruling) → place (claim k.line k.row r) < p
+    low held = omega arith
+    low broken = omega arith
 
 module _ (T : Rules) (wf : WellFormed T) (R : List Row) where
   -- the best way has the size of the shortest certificate
@@ -196,31 +186,23 @@ module _ (T : Rules) (wf : WellFormed T) (R : List Row) where
   unfolding size_at
   read_same few n p s old e h k l =
       elim (dec_lt k.row 128) [
-        | yes q ↦ let r = read_filled (size_at T R) p s old e k q (omega arith) in r.1 ∙ ap (cell_of T R) r.2
-        | no q ↦ sym (read_none s k.line k.row k.ruling (omega arith)) ∙ sym (no_row k (omega arith))
+        | yes q ↦ let r = read_filled (size_at T R) p s old e k q (omega arith) in r.0 ∙ ap (cell_of T R) r.1
+        | no q ↦ sym (read_none s k (omega arith)) ∙ sym (no_row k (omega arith))
       ]
 
   -- the cells of a filled plan
   pub read_code : (s old : List ℕ) → s ≡ filled (code_at T R) 8192 old → (k : Claim) → k.line < 32 → k.row < 128 → cell_in s k ≡ (best_by (cell_of T R) T R k).code
   unfolding code_at
-  read_code s old e k l q = let r = read_filled (code_at T R) 8192 s old e k q (omega arith) in r.1 ∙ ap (λ x. (best_by (cell_of T R) T R x).code) r.2
+  read_code s old e k l q = let r = read_filled (code_at T R) 8192 s old e k q (omega arith) in r.0 ∙ ap (λ x. (best_by (cell_of T R) T R x).code) r.1
 
   pub best_right : length R ≤ 128 → (p : ℕ) (s old : List ℕ) (c : Claim) → s ≡ filled (size_at T R) p old → 256 * c.line ≤ p → best_by (cell_in s) T R c ≡ best_by (cell_of T R) T R c
   best_right few p s old c e h = best_same (cell_in s) (cell_of T R) c.line (read_same few c.line p s old e h) T R wf c refl
 
-  -- what the code finds for a line and a row is what belongs into its cells
-  pub found_held : length R ≤ 128 → (n i : ℕ) (s old : List ℕ) (b : Best) → i < 128 → s ≡ filled (size_at T R) (256 * n + 2 * i) old → b ≡ best_by (cell_in s) T R (Held n i) →
-      (b.size ≡ size_at T R (256 * n + 2 * i)) × (b.code ≡ code_at T R (256 * n + 2 * i))
+  -- what the code finds for a claim is what belongs into its cells
+  pub found : length R ≤ 128 → (c : Claim) (p q : ℕ) (s old : List ℕ) (b : Best) → c.row < 128 → 256 * c.line ≤ p → q ≡ place c → s ≡ filled (size_at T R) p old →
+      b ≡ best_by (cell_in s) T R c → (b.size ≡ size_at T R q) × (b.code ≡ code_at T R q)
   unfolding size_at code_at
-  found_held few n i s old b h e k =
-      let z = k ∙ best_right few (256 * n + 2 * i) s old (Held n i) e (omega arith) in
-      let c = sym (held_claim n i h) in
-      (ap (λ (x : Best). x.size) z ∙ size_is (Held n i) ∙ ap (cell_of T R) c, ap (λ (x : Best). x.code) z ∙ ap (λ x. (best_by (cell_of T R) T R x).code) c)
-
-  pub found_broken : length R ≤ 128 → (n i : ℕ) (s old : List ℕ) (b : Best) → i < 128 → s ≡ filled (size_at T R) (256 * n + 2 * i) old → b ≡ best_by (cell_in s) T R (Broken n i) →
-      (b.size ≡ size_at T R (suc (256 * n + 2 * i))) × (b.code ≡ code_at T R (suc (256 * n + 2 * i)))
-  unfolding size_at code_at
-  found_broken few n i s old b h e k =
-      let z = k ∙ best_right few (256 * n + 2 * i) s old (Broken n i) e (omega arith) in
-      let c = sym (broken_claim n i h) in
-      (ap (λ (x : Best). x.size) z ∙ size_is (Broken n i) ∙ ap (cell_of T R) c, ap (λ (x : Best). x.code) z ∙ ap (λ x. (best_by (cell_of T R) T R x).code) c)
+  found few c p q s old b h l at e k =
+      let z = k ∙ best_right few p s old c e l in
+      let d = sym (ap claim_at at ∙ claim_of c h) in
+      (ap (λ (x : Best). x.size) z ∙ size_is c ∙ ap (cell_of T R) d, ap (λ (x : Best). x.code) z ∙ ap (λ x. (best_by (cell_of T R) T R x).code) d)

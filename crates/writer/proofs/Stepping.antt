@@ -1,10 +1,11 @@
 -- What the writers write at a node, by the way that the plan names.
-use Rattle.std.proofs.Common.{◌≡◌, ℕ, ◌<◌, List, [], ◌∷◌, ◌++◌, length, Some, sym, ap, ◌∙◌, subst, arith}
+use Rattle.std.proofs.Common.{◌≡◌, ℕ, ◌<◌, List, [], ◌∷◌, ◌++◌, length, None, sym, refl, ap, ◌∙◌, subst, arith}
 use Rattle.mtl.specs.Lists.{AllOf}
 use Rattle.mtl.specs.declared.line.Line.{Line}
 use Rattle.mtl.specs.declared.line.Line.TheVariants.{Mark, Not, And, Or, Previous, Next, Since, Until}
 use Rattle.writer.specs.Ways.{Way, kids_of, Names, by_this, by_later, Takes, neg_of}
-use Rattle.writer.specs.Written.{node, Short, Writable, cert_bytes, all_bytes}
+use Rattle.writer.specs.Written.{node, Short, Planned, cert_bytes, all_bytes}
+use Rattle.writer.specs.Tables.{Given}
 use Rattle.mtl.specs.Lines.{Rules, line_at}
 use Rattle.mtl.proofs.Operands.{earlier_at}
 use Rattle.mtl.specs.Claims.{Held, Broken}
@@ -26,80 +27,58 @@ kids_below P r code s (f ∷ fs) (by_this j u a o b k q) h = subst (λ (t : Step
 kids_below P r code s (f ∷ fs) (by_later n) h = kids_below P r code s fs n h.1
 
 -- a child that a writer can go on to
-abbrev pub NextTo : Rules → List Row → List ℕ → ℕ → Claim → Type 0
-NextTo T R plan n k = Writable T R plan k × (k.line < n)
+abbrev pub NextTo : Rules → List Row → ℕ → Claim → Type 0
+NextTo T R n k = Short T R k × (k.line < n)
 
-kids_next : (T : Rules) (R : List Row) (plan : List ℕ) (n : ℕ) (c : Claim) → Writable T R plan c → (cs : List Claim) →
-    AllOf (Short T R) cs → AllOf (λ (k : Claim). k.line < n) cs → AllOf (NextTo T R plan n) cs
-kids_next T R plan n c w [] a b = tt
-kids_next T R plan n c w (k ∷ ks) a b =
-    let r = plan_says T w.given.ordered R w.given.few_rows k a.0 in (
-      (
-        record {
-          given = w.given;
-          wide = w.wide;
-          codes = w.codes;
-          short = a.0;
-          line_in = r.1;
-          row_in = r.2;
-          line_low = omega (arith, r.1, w.given.few_lines);
-          row_low = omega (arith, r.2, w.given.few_rows);
-        },
-        b.0,
-      ),
-      kids_next T R plan n c w ks a.1 b.1,
-    )
+kids_next : (T : Rules) (R : List Row) (n : ℕ) (cs : List Claim) → AllOf (Short T R) cs → AllOf (λ (k : Claim). k.line < n) cs → AllOf (NextTo T R n) cs
+kids_next T R n [] a b = tt
+kids_next T R n (k ∷ ks) a b = ((a.0, b.0), kids_next T R n ks a.1 b.1)
 
-module _ (T : Rules) (R : List Row) (plan : List ℕ) (c : Claim) (w : Writable T R plan c) where
+module _ (T : Rules) (R : List Row) (g : Given T R) (plan : List ℕ) (codes : Planned T R plan) (c : Claim) (w : Short T R c) where
   -- what is written by a step: its children, all of earlier lines, and then its node
   abbrev Done : Step → Type 0
-  Done s = AllOf (NextTo T R plan c.line) s.kids × (cert_bytes T R c ≡ all_bytes T R s.kids ++ node c.line s.rule c.row (length s.kids))
+  Done s = AllOf (NextTo T R c.line) s.kids × (cert_bytes T R c ≡ all_bytes T R s.kids ++ node c.line s.rule c.row (length s.kids))
 
   -- the step that the plan names at the claim's cell
   step_at : (s : Step) × Names c.ruling (cell_in plan c) s (forms R c.row (line_at T c.line)) × Done s
   step_at =
-      let r = plan_says T w.given.ordered R w.given.few_rows c w.short in
-      let n = subst (λ x. Names c.ruling x r.0 (forms R c.row (line_at T c.line))) (sym (w.codes c w.line_low w.row_low)) r.3 in
-      let m = made T w.given.ordered R c r.0 w.short r.4 in
+      let r = plan_says T g.ordered R g.few_rows c w in
+      let n = subst (λ x. Names c.ruling x r.0 (forms R c.row (line_at T c.line))) (sym (codes c (omega (arith, r.1, g.few_lines)) (omega (arith, r.2, g.few_rows)))) r.3 in
+      let m = made T g.ordered R c r.0 w r.4 in
       let b = kids_below (λ (k : Claim). k.line < c.line) c.ruling (cell_in plan c) r.0 (forms R c.row (line_at T c.line)) n
-      (below R c.row c.line (line_at T c.line) (earlier_at T w.given.ordered c.line r.1)) in
-      (r.0, n, (kids_next T R plan c.line c w r.0.kids m.0 b, m.1))
+      (below R c.row c.line (line_at T c.line) (earlier_at T g.ordered c.line r.1)) in
+      (r.0, n, (kids_next T R c.line r.0.kids m.0 b, m.1))
 
   pub by_way : (v : Way) → Takes v c.ruling (cell_in plan c) (forms R c.row (line_at T c.line)) → Done (by v.rule (kids_of c.ruling v))
   by_way v t = let r = step_at in subst Done (t r.0 r.1) r.2
 
   pub by_not : (rule : ℕ) (k : Claim) → ((s : Step) → Names c.ruling (cell_in plan c) s (forms R c.row (line_at T c.line)) → s ≡ by rule (k ∷ [])) →
-      NextTo T R plan c.line k × (cert_bytes T R c ≡ cert_bytes T R k ++ node c.line rule c.row 1)
+      NextTo T R c.line k × (cert_bytes T R c ≡ cert_bytes T R k ++ node c.line rule c.row 1)
   by_not rule k t =
       let r = step_at in
       let z = subst Done (t r.0 r.1) r.2 in
       (z.0.0, z.1 ∙ ap (λ xs. xs ++ node c.line rule c.row 1) (all_one T R k))
 
 -- the only ways to rule a not
-named_held : (R : List Row) (i l code : ℕ) (s : Step) → Names held code s (forms R i (Not l)) → s ≡ by 3 (Broken l i ∷ [])
+pub named_held : (R : List Row) (i l code : ℕ) (s : Step) → Names held code s (forms R i (Not l)) → s ≡ by 3 (Broken l i ∷ [])
 unfolding forms
 named_held R i l code s (by_this j u a o b k q) = q
 named_held R i l code s (by_later (by_this j u a o b k q)) = absurd (unheld u)
 named_held R i l code s (by_later (by_later n)) = elim n [ ]
 
-named_broken : (R : List Row) (i l code : ℕ) (s : Step) → Names broken code s (forms R i (Not l)) → s ≡ by 4 (Held l i ∷ [])
+pub named_broken : (R : List Row) (i l code : ℕ) (s : Step) → Names broken code s (forms R i (Not l)) → s ≡ by 4 (Held l i ∷ [])
 unfolding forms
 named_broken R i l code s (by_this j u a o b k q) = absurd (unbroken u)
 named_broken R i l code s (by_later (by_this j u a o b k q)) = q
 named_broken R i l code s (by_later (by_later n)) = elim n [ ]
 
-is_not : (l : ℕ) (x : Line) → neg_of x ≡ Some l → x ≡ Not l
-is_not l (Not k) e = cc
-is_not l (Mark m) e = let z : ◌≡◌ {A = ℕ} 0 1 = cc in absurd (omega arith)
-is_not l (And a b) e = let z : ◌≡◌ {A = ℕ} 0 1 = cc in absurd (omega arith)
-is_not l (Or a b) e = let z : ◌≡◌ {A = ℕ} 0 1 = cc in absurd (omega arith)
-is_not l (Previous v a) e = let z : ◌≡◌ {A = ℕ} 0 1 = cc in absurd (omega arith)
-is_not l (Next v a) e = let z : ◌≡◌ {A = ℕ} 0 1 = cc in absurd (omega arith)
-is_not l (Since v a b) e = let z : ◌≡◌ {A = ℕ} 0 1 = cc in absurd (omega arith)
-is_not l (Until v a b) e = let z : ◌≡◌ {A = ℕ} 0 1 = cc in absurd (omega arith)
-
-pub not_held_by : (R : List Row) (i l code : ℕ) (x : Line) → neg_of x ≡ Some l → (s : Step) → Names held code s (forms R i x) → s ≡ by 3 (Broken l i ∷ [])
-not_held_by R i l code x e s n = named_held R i l code s (subst (λ y. Names held code s (forms R i y)) (is_not l x e) n)
-
-pub not_broken_by : (R : List Row) (i l code : ℕ) (x : Line) → neg_of x ≡ Some l → (s : Step) → Names broken code s (forms R i x) → s ≡ by 4 (Held l i ∷ [])
-not_broken_by R i l code x e s n = named_broken R i l code s (subst (λ y. Names broken code s (forms R i y)) (is_not l x e) n)
+-- a line that is no not has no operand of one
+pub no_not : (x : Line) → ((l : ℕ) → x ≡ Not l → ⊥) → neg_of x ≡ None
+no_not (Mark m) h = refl
+no_not (Not l) h = absurd (h l refl)
+no_not (And a b) h = refl
+no_not (Or a b) h = refl
+no_not (Previous v a) h = refl
+no_not (Next v a) h = refl
+no_not (Since v a b) h = refl
+no_not (Until v a b) h = refl

@@ -2,10 +2,13 @@
 use Rattle.std.proofs.Common.{◌≡◌, ℕ, zero, suc, ◌+◌, ◌-◌, ◌*◌, ◌/◌, ◌%◌, ◌<◌, ◌≤◌, cond, eqb, List, [], ◌∷◌, ◌++◌, map, length, get_or, drop, set, sym, refl, ap, ◌∙◌, ap₂, append_assoc, arith, drop-cons, drop-drop}
 use lib.ListN.{get_or-append}
 use lib.Seq.{set_at, drop-append-add}
+use Rattle.std.proofs.lemmas.List.{map-append}
 use Rattle.mtl.specs.Buffers.{claim_at}
-use Rattle.mtl.specs.Claims.{Held, Broken}
+use Rattle.mtl.specs.Claims.{claim}
+use Rattle.mtl.specs.declared.ruling.Claim.{Claim}
 use Rattle.mtl.specs.Ranges.{run}
 use Rattle.mtl.specs.declared.ruling.Ruling.TheVariants.{Held as held, Broken as broken}
+use Rattle.writer.specs.Choice.{place}
 use Rattle.writer.specs.Tables.{filled}
 use Rattle.writer.proofs.Adding.{run_back}
 
@@ -13,10 +16,6 @@ pub length_run : {A : Type 0} (f : ℕ → A) (a n : ℕ) → length (map f (run
 unfolding run
 length_run f a zero = refl
 length_run f a (suc n) = ap suc (length_run f (suc a) n)
-
-map_back : (f : ℕ → ℕ) (xs ys : List ℕ) → map f (xs ++ ys) ≡ map f xs ++ map f ys
-map_back f [] ys = refl
-map_back f (x ∷ xs) ys = ap (λ zs. f x ∷ zs) (map_back f xs ys)
 
 pub get_run : {A : Type 0} (f : ℕ → A) (d : A) (a n k : ℕ) → k < n → get_or (map f (run a n)) k d ≡ f (a + k)
 unfolding run
@@ -50,7 +49,7 @@ filled_set f n v old h e =
     ap (λ xs. set (map f (run 0 n) ++ xs) n v) (drop-cons old n 0 h) ∙ set_at (map f (run 0 n)) (get_or old n 0) (drop (suc n) old) v n (length_run f 0 n) ∙
     ap (λ x. map f (run 0 n) ++ (x ∷ drop (suc n) old)) (e ∙ ap f (sym z)) ∙
     sym (append_assoc (map f (run 0 n)) (f (0 + n) ∷ []) (drop (suc n) old)) ∙
-    ap (λ xs. xs ++ drop (suc n) old) (sym (map_back f (run 0 n) ((0 + n) ∷ [])) ∙ ap (map f) (sym (run_back 0 n)))
+    ap (λ xs. xs ++ drop (suc n) old) (sym (map-append f (run 0 n) ((0 + n) ∷ [])) ∙ ap (map f) (sym (run_back 0 n)))
 
 -- two cells more
 pub filled_two : (f : ℕ → ℕ) (m n a b : ℕ) (s old : List ℕ) → s ≡ filled f m old → n ≡ suc (suc m) → suc m < length old → a ≡ f m → b ≡ f (suc m) →
@@ -60,19 +59,20 @@ filled_two f m n a b s old h e l p q =
     ap (λ x. set (set x m a) (m + 1) b) h ∙ ap (λ x. set x (m + 1) b) (filled_set f m a old (omega arith) p) ∙
     ap (λ x. set (filled f (suc m) old) x b) k ∙ filled_set f (suc m) b old l q ∙ ap (λ x. filled f x old) (sym e)
 
-pub held_claim : (n i : ℕ) → i < 128 → claim_at (256 * n + 2 * i) ≡ Held n i
-held_claim n i h =
-    let p : (256 * n + 2 * i) / 256 ≡ n = omega arith in
-    let q : ((256 * n + 2 * i) % 256) / 2 ≡ i = omega arith in
-    let z : (256 * n + 2 * i) % 2 ≡ 0 = omega arith in
-    λ k. record { line = p k; row = q k; ruling = cond (eqb (z k) 0) held broken }
-
-pub broken_claim : (n i : ℕ) → i < 128 → claim_at (suc (256 * n + 2 * i)) ≡ Broken n i
-broken_claim n i h =
-    let p : suc (256 * n + 2 * i) / 256 ≡ n = omega arith in
-    let q : (suc (256 * n + 2 * i) % 256) / 2 ≡ i = omega arith in
-    let z : suc (256 * n + 2 * i) % 2 ≡ 1 = omega arith in
-    λ k. record { line = p k; row = q k; ruling = cond (eqb (z k) 0) held broken }
+-- the claim whose cell stands at its place
+pub claim_of : (c : Claim) → c.row < 128 → claim_at (place c) ≡ c
+claim_of c h = elim c.ruling as (λ r. claim_at (place (claim c.line c.row r)) ≡ claim c.line c.row r) [
+  | held ↦
+      let p : (256 * c.line + (2 * c.row + 0)) / 256 ≡ c.line = omega arith in
+      let q : ((256 * c.line + (2 * c.row + 0)) % 256) / 2 ≡ c.row = omega arith in
+      let z : (256 * c.line + (2 * c.row + 0)) % 2 ≡ 0 = omega arith in
+      λ k. record { line = p k; row = q k; ruling = cond (eqb (z k) 0) held broken }
+  | broken ↦
+      let p : (256 * c.line + (2 * c.row + 1)) / 256 ≡ c.line = omega arith in
+      let q : ((256 * c.line + (2 * c.row + 1)) % 256) / 2 ≡ c.row = omega arith in
+      let z : (256 * c.line + (2 * c.row + 1)) % 2 ≡ 1 = omega arith in
+      λ k. record { line = p k; row = q k; ruling = cond (eqb (z k) 0) held broken }
+]
 
 -- a filled front stays one
 pub filled_on : (f : ℕ → ℕ) (n m : ℕ) (s old : List ℕ) → m ≡ n → s ≡ filled f n old → s ≡ filled f m s

@@ -2,6 +2,8 @@
 use Rattle.std.proofs.Common.{◌≡◌, ℕ, suc, ◌+◌, ◌-◌, ◌/◌, ◌%◌, ◌<◌, ◌≤◌, List, [], ◌∷◌, sym, ap, ◌∙◌, ap₂, arith}
 use Rattle.writer.specs.Ways.{Way, kids_of, Makes, by_this, by_later, Takes}
 use Rattle.mtl.specs.declared.line.Line.TheVariants.{Mark, And, Or, Previous, Next, Since, Until}
+use Rattle.writer.specs.Choice.{code_of}
+use Rattle.writer.specs.declared.offer.Pick.{Pick}
 use Rattle.mtl.specs.Lists.{AllOf}
 use Rattle.mtl.specs.Claims.{Held, each, claim}
 use Rattle.mtl.specs.Ranges.{run, range}
@@ -10,6 +12,13 @@ use Rattle.mtl.specs.declared.line.Window.{Window}
 use Rattle.mtl.specs.declared.row.Row.{Row}
 use Rattle.mtl.specs.declared.ruling.Ruling.{Ruling}
 use Rattle.mtl.specs.declared.ruling.Ruling.TheVariants.{Held as held, Broken as broken}
+
+-- what a cell of the plan has, read back
+pub rule_in : (p : Pick) → p.row < 256 → p.rule ≡ code_of p / 256
+rule_in p h = omega arith
+
+pub row_in : (p : Pick) → p.row < 256 → p.row ≡ code_of p % 256
+row_in p h = omega arith
 
 -- a form of the ruling whose number and j the code has, has the way's children
 abbrev Own : Way → Ruling → ℕ → Form → Type 0

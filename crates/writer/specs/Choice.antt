@@ -1,21 +1,39 @@
 -- The least of several ways to rule a claim, and how a table of cells is read.
-use Rattle.std.specs.Prelude.{ℕ, zero, suc, ◌+◌, ◌*◌, ◌<◌, ◌≤◌, Bool, cond, List, [], ◌∷◌, length, nat_lt, slice_index}
+use Rattle.std.specs.Prelude.{ℕ, zero, suc, ◌+◌, ◌*◌, Bool, cond, List, [], ◌∷◌, Some, None, Option, nat_lt, slice_index}
+use Rattle.std.specs.Int.NonZero.{non_zero_u16_get}
+use Rattle.std.specs.declared.num.NonZeroU16.{NonZeroU16}
 use Rattle.mtl.specs.Cells.{sum_cells, add_cell, first_of}
 use Rattle.mtl.specs.Claims.{same_ruling}
 use Rattle.mtl.specs.Forms.{Form}
 use Rattle.mtl.specs.Ranges.{run}
-use Rattle.mtl.specs.Rows.{NeverFalls}
-use Rattle.mtl.specs.declared.line.Line.{Line}
-use Rattle.mtl.specs.declared.line.Line.TheVariants.{Mark, Not, And, Or, Previous, Next, Since, Until}
-use Rattle.mtl.specs.declared.row.Row.{Row}
 use Rattle.mtl.specs.declared.ruling.Claim.{Claim}
 use Rattle.mtl.specs.declared.ruling.Ruling.{Ruling}
 use Rattle.mtl.specs.declared.ruling.Ruling.TheVariants.{Held as held, Broken as broken}
-pub use Rattle.writer.specs.declared.best.Best.{Best}
+use Rattle.writer.specs.declared.offer.Offer.{Offer}
+use Rattle.writer.specs.declared.offer.Pick.{Pick}
+
+-- the two cells of a claim: a size, 0 for none, and the rule and row that give it
+pub record Best : Type 0 where
+  pub size : ℕ
+  pub code : ℕ
 
 -- no way at all
 abbrev pub none : Best
 none = record { size = 0; code = 0 }
+
+-- a size as it stands in a cell, 0 for none
+abbrev pub sized : Option NonZeroU16 → ℕ
+sized None = 0
+sized (Some n) = non_zero_u16_get n
+
+-- a rule and its row j in one cell
+abbrev pub code_of : Pick → ℕ
+code_of p = 256 * p.rule + p.row
+
+-- a way as it stands in the cells
+abbrev pub cells_of : Option Offer → Best
+cells_of None = none
+cells_of (Some o) = record { size = non_zero_u16_get o.size; code = code_of o.pick }
 
 -- the smaller of two, the first among equals
 abbrev pub merge : Best → Best → Best
@@ -55,31 +73,3 @@ place c = 256 * c.line + (2 * c.row + elim c.ruling [ held ↦ 0 | broken ↦ 1 
 -- a claim's cell in a table of cells
 unfoldable pub cell_in : List ℕ → Claim → ℕ
 cell_in cs c = cond (nat_lt c.row 128) (slice_index cs (place c)) 0
-
--- what a pass over the rows wants of the table of cells, the operands and the row
-pub record Ready (cs : List ℕ) (rows : List Row) (left right row : ℕ) : Type 0 where
-  pub wide : 8192 ≤ length cs
-  pub few : length rows ≤ 128
-  pub left_in : left < 32
-  pub right_in : right < 32
-  pub row_in : row < length rows
-  pub rising : NeverFalls rows
-
--- a line's operands are among the 32 lines
-abbrev pub Small : Line → Type 0
-Small (Mark m) = Unit {0}
-Small (Not l) = l < 32
-Small (And l r) = (l < 32) × (r < 32)
-Small (Or l r) = (l < 32) × (r < 32)
-Small (Previous w l) = l < 32
-Small (Next w l) = l < 32
-Small (Since w l r) = (l < 32) × (r < 32)
-Small (Until w l r) = (l < 32) × (r < 32)
-
--- the same for a line, whatever its kind
-pub record Fit (cs : List ℕ) (rows : List Row) (line : Line) (row : ℕ) : Type 0 where
-  pub wide : 8192 ≤ length cs
-  pub few : length rows ≤ 128
-  pub small : Small line
-  pub row_in : row < length rows
-  pub rising : NeverFalls rows

@@ -1,5 +1,5 @@
 -- What Settle tells, with each refusal as its number.
-use Rattle.std.specs.Prelude.{ℕ, zero, suc, Result}
+use Rattle.std.specs.Prelude.{ℕ, zero, suc, Some, None, Option, Result}
 use Rattle.mtl.specs.Questions.{numbered}
 use Rattle.mtl.specs.declared.ruling.Ruling.TheVariants.{Held as held, Broken as broken}
 use Rattle.mtl.specs.declared.ruling.Settled.{Settled}
@@ -18,7 +18,8 @@ settle_number OutputShort = 26
 abbrev pub told : Result Settled SettleFault → Result Settled ℕ
 told r = numbered settle_number r
 
--- the ruling that has a certificate, by the two cells of a line at a row; size 0 if neither has
-abbrev pub least_of : ℕ → ℕ → Settled
-least_of zero b = record { ruling = broken; size = b }
-least_of (suc a) b = record { ruling = held; size = suc a }
+-- the ruling that has a certificate, by the two cells of a line at a row
+abbrev pub least_of : ℕ → ℕ → Option Settled
+least_of zero zero = None
+least_of zero (suc b) = Some (record { ruling = broken; size = suc b })
+least_of (suc a) b = Some (record { ruling = held; size = suc a })

@@ -1,12 +1,10 @@
 -- What a cell of the plan stands for.
-use Rattle.std.specs.Prelude.{◌≡◌, ℕ, ◌+◌, ◌-◌, ◌*◌, ◌<◌, ◌≤◌, List, ◌∷◌, ◌++◌, length, Some, None, Option}
+use Rattle.std.specs.Prelude.{◌≡◌, ℕ, ◌+◌, ◌-◌, ◌*◌, ◌<◌, ◌≤◌, List, ◌∷◌, ◌++◌, Some, None, Option}
 use Rattle.mtl.specs.Claims.{each}
 use Rattle.mtl.specs.Forms.{Form, Step, by}
 use Rattle.mtl.specs.Ranges.{run}
-use Rattle.mtl.specs.Rows.{NeverFalls}
 use Rattle.mtl.specs.declared.line.Line.{Line}
 use Rattle.mtl.specs.declared.line.Line.TheVariants.{Mark, Not, And, Or, Previous, Next, Since, Until}
-use Rattle.mtl.specs.declared.row.Row.{Row}
 use Rattle.mtl.specs.declared.ruling.Claim.{Claim}
 use Rattle.mtl.specs.declared.ruling.Ruling.{Ruling}
 pub use Rattle.writer.specs.declared.way.Run.{Run}
@@ -20,15 +18,10 @@ claims_of r x = each r x.line (run x.from (x.to - x.from))
 abbrev pub kids_of : Ruling → Way → List Claim
 kids_of r w = claims_of r w.first ++ claims_of r w.rest
 
--- no run goes past row 255
-abbrev pub Near : Way → Type 0
-Near w = (w.first.to ≤ 256) × (w.rest.to ≤ 256)
-
 -- a way by this rule, with these children
 pub record Makes (w : Way) (rule : ℕ) (kids : Ruling → List Claim) : Type 0 where
   pub ruled : w.rule ≡ rule
   pub kids_are : (r : Ruling) → kids_of r w ≡ kids r
-  pub near : Near w
 
 -- among these forms, a code names the step of a rule for this ruling, by its number and j
 pub data Names (r : Ruling) (code : ℕ) (s : Step) : List Form → Type 0 where
@@ -40,12 +33,6 @@ pub data Names (r : Ruling) (code : ℕ) (s : Step) : List Form → Type 0 where
 -- a way takes the step that the code names
 abbrev pub Takes : Way → Ruling → ℕ → List Form → Type 0
 Takes w r code fs = (s : Step) → Names r code s fs → s ≡ by w.rule (kids_of r w)
-
--- a row of a log
-pub record Seen (R : List Row) (i : ℕ) : Type 0 where
-  pub row_in : i < length R
-  pub few : length R ≤ 128
-  pub rising : NeverFalls R
 
 -- the operand of a not
 abbrev pub neg_of : Line → Option ℕ

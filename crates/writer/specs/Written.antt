@@ -6,7 +6,7 @@ use Rattle.mtl.specs.Shortest.{certificate}
 use Rattle.mtl.specs.declared.row.Row.{Row}
 use Rattle.mtl.specs.declared.ruling.Claim.{Claim}
 use Rattle.mtl.specs.declared.ruling.Node.{Node}
-use Rattle.writer.specs.Tables.{Given, cell_of, best_by}
+use Rattle.writer.specs.Tables.{cell_of, best_by}
 use Rattle.writer.specs.Choice.{cell_in}
 
 -- six bytes: line, rule, row, count, the higher byte first
@@ -39,13 +39,6 @@ all_bytes T R (c ∷ cs) = cert_bytes T R c ++ all_bytes T R cs
 abbrev pub Short : Rules → List Row → Claim → Type 0
 Short T R c = (1 ≤ cell_of T R c) × (cell_of T R c ≤ 4096)
 
--- what a writer of the claim wants: a filled plan, and a certificate that is not too long
-pub record Writable (T : Rules) (R : List Row) (plan : List ℕ) (c : Claim) : Type 0 where
-  pub given : Given T R
-  pub wide : 8192 ≤ length plan
-  pub codes : (k : Claim) → k.line < 32 → k.row < 128 → cell_in plan k ≡ (best_by (cell_of T R) T R k).code
-  pub short : Short T R c
-  pub line_in : c.line < length T
-  pub row_in : c.row < length R
-  pub line_low : c.line < 32
-  pub row_low : c.row < 128
+-- a filled plan: the code of the least way to rule each claim
+abbrev pub Planned : Rules → List Row → List ℕ → Type 0
+Planned T R plan = (k : Claim) → k.line < 32 → k.row < 128 → cell_in plan k ≡ (best_by (cell_of T R) T R k).code

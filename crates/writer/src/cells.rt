@@ -1,30 +1,29 @@
 // Reading a table of sizes or of ways: 256 cells a line, two a row, held before broken.
-ghost use Rattle.std.specs.Prelude.{◌≡◌, ℕ, ◌<◌, ◌≤◌, length};
-ghost use Rattle.mtl.specs.Claims.{Held as held_at, Broken as broken_at};
-ghost use Rattle.writer.specs.Choice.{cell_in};
+// The tables are lent and stay the caller's, so a cell is a number, with 0 for none; a size that is read is an Option.
+ghost use Rattle.std.specs.Prelude.{◌≡◌};
+ghost use Rattle.mtl.specs.Claims.{claim};
+ghost use Rattle.writer.specs.Choice.{cell_in, sized};
 
-pub(crate) fn held_cell(cells: &[u16], line: u8, row: usize) -> u16
-    requires { (8192 ≤ length cells.now) × ((line < 32) × (row < 128)) }
-    ensures { result ≡ cell_in cells.now (held_at line row) }
-{
-    cells[256 * line as usize + 2 * row]
-}
+use mtl::ruling::Ruling;
+use std::num::NonZeroU16;
 
-pub(crate) fn broken_cell(cells: &[u16], line: u8, row: usize) -> u16
-    requires { (8192 ≤ length cells.now) × ((line < 32) × (row < 128)) }
-    ensures { result ≡ cell_in cells.now (broken_at line row) }
+// The cell of a line at a row, 0 where the table has none.
+pub(crate) fn cell(cells: &[u16], line: u8, row: usize, ruling: Ruling) -> u16
+    ensures { result ≡ cell_in cells.now (claim line row ruling) }
 {
-    cells[256 * line as usize + (2 * row + 1)]
-}
-
-// None, for the row after the last that a log can have.
-pub(crate) fn broken_cell_or_none(cells: &[u16], line: u8, row: usize) -> u16
-    requires { (8192 ≤ length cells.now) × ((line < 32) × (row ≤ 128)) }
-    ensures { result ≡ cell_in cells.now (broken_at line row) }
-{
-    if row < 128 {
-        broken_cell(cells, line, row)
-    } else {
-        0
+    if row >= 128 {
+        return 0;
     }
+    let at = match ruling {
+        Ruling::Held => 2 * row,
+        Ruling::Broken => 2 * row + 1,
+    };
+    cells.get(256 * line as usize + at).copied().unwrap_or(0)
+}
+
+// The size in that cell, which has 0 for none.
+pub(crate) fn size(cells: &[u16], line: u8, row: usize, ruling: Ruling) -> Option<NonZeroU16>
+    ensures { sized result ≡ cell_in cells.now (claim line row ruling) }
+{
+    NonZeroU16::new(cell(cells, line, row, ruling))
 }

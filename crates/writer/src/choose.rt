@@ -1,111 +1,77 @@
 // The least way to rule a line at a row, by the cells of earlier lines.
-ghost use Rattle.std.specs.Prelude.{◌≡◌, ℕ, ◌<◌, ◌≤◌, length};
-ghost use Rattle.mtl.specs.Claims.{Held as held_at, Broken as broken_at};
+ghost use Rattle.std.specs.Prelude.{◌≡◌};
+ghost use Rattle.mtl.specs.Claims.{claim};
 ghost use Rattle.mtl.specs.Forms.{forms};
-ghost use Rattle.mtl.specs.Rows.{stands};
 ghost use Rattle.mtl.specs.Tables.{lines_of};
 ghost use Rattle.mtl.specs.declared.ruling.Ruling.TheVariants.{Held as held, Broken as broken};
-ghost use Rattle.writer.specs.Choice.{cell_in, of_forms, Fit};
-ghost use Rattle.writer.specs.Tables.{Given, best_by};
+ghost use Rattle.writer.specs.Choice.{cell_in, of_forms, cells_of};
+ghost use Rattle.writer.specs.Tables.{best_by};
 
-use crate::best::{Best, NONE};
-use crate::cells::{broken_cell, held_cell};
+use crate::children::{by_both, by_either, by_one};
+use crate::known::Known;
 use crate::neighbours::{next_broken, next_held, previous_broken, previous_held};
+use crate::offer::Offer;
+use crate::rows::{Rows, Spot};
 use crate::since::{since_broken, since_held};
-use crate::sums::{better, offered, plus};
+use crate::sums::{ONE, offered};
 use crate::until::{until_broken, until_held};
 use mtl::line::Line;
-use mtl::row::Row;
+use mtl::ruling::Ruling;
 use mtl::table::Table;
 
-fn marked(row: Row, mark: u8) -> bool
-    ensures { result ≡ stands row mark }
+// Held and broken have rules of their own at every kind, so each has its match.
+fn held_at(known: Known<'_>, line: Line) -> Option<Offer>
+    ensures { cells_of result ≡ of_forms (cell_in known.entry.sizes.now) held (forms known.entry.spot.rows.all.now known.entry.spot.row line) }
 {
-    mark < 32 && (row.marks >> mark) & 1 == 1
-}
-
-fn held_at(line: Line, rows: &[Row], sizes: &[u16], row: usize) -> Best
-    requires { Fit sizes.now rows.now line row }
-    ensures { result ≡ of_forms (cell_in sizes.now) held (forms rows.now row line) }
-{
+    let spot = known.spot;
     match line {
-        Line::Mark(mark) => offered(marked(rows[row], mark), 1, 1, 0),
-        Line::Not(left) => offered(true, plus(1, broken_cell(sizes, left, row)), 3, 0),
-        Line::And(left, right) => {
-            let both = plus(
-                plus(1, held_cell(sizes, left, row)),
-                held_cell(sizes, right, row),
-            );
-            offered(true, both, 5, 0)
-        }
-        Line::Or(left, right) => {
-            let by_left = offered(true, plus(1, held_cell(sizes, left, row)), 8, 0);
-            let by_right = offered(true, plus(1, held_cell(sizes, right, row)), 9, 0);
-            better(by_left, by_right)
-        }
-        Line::Previous(window, left) => previous_held(window, left, rows, sizes, row),
-        Line::Next(window, left) => next_held(window, left, rows, sizes, row),
-        Line::Since(window, left, right) => since_held(window, left, right, rows, sizes, row),
-        Line::Until(window, left, right) => until_held(window, left, right, rows, sizes, row),
+        Line::Mark(mark) => offered(spot.rows.all[spot.row].stands(mark as u32), ONE, 1, 0),
+        Line::Not(left) => by_one(known, true, 3, left, spot.row, Ruling::Broken),
+        Line::And(left, right) => by_both(known, 5, left, right, Ruling::Held),
+        Line::Or(left, right) => by_either(known, 8, left, right, Ruling::Held),
+        Line::Previous(window, left) => previous_held(known, window, left),
+        Line::Next(window, left) => next_held(known, window, left),
+        Line::Since(window, left, right) => since_held(known, window, left, right),
+        Line::Until(window, left, right) => until_held(known, window, left, right),
     }
 }
 
-fn broken_at(line: Line, rows: &[Row], sizes: &[u16], row: usize) -> Best
-    requires { Fit sizes.now rows.now line row }
-    ensures { result ≡ of_forms (cell_in sizes.now) broken (forms rows.now row line) }
+fn broken_at(known: Known<'_>, line: Line) -> Option<Offer>
+    ensures { cells_of result ≡ of_forms (cell_in known.entry.sizes.now) broken (forms known.entry.spot.rows.all.now known.entry.spot.row line) }
 {
+    let spot = known.spot;
     match line {
-        Line::Mark(mark) => offered(!marked(rows[row], mark), 1, 2, 0),
-        Line::Not(left) => offered(true, plus(1, held_cell(sizes, left, row)), 4, 0),
-        Line::And(left, right) => {
-            let by_left = offered(true, plus(1, broken_cell(sizes, left, row)), 6, 0);
-            let by_right = offered(true, plus(1, broken_cell(sizes, right, row)), 7, 0);
-            better(by_left, by_right)
-        }
-        Line::Or(left, right) => {
-            let both = plus(
-                plus(1, broken_cell(sizes, left, row)),
-                broken_cell(sizes, right, row),
-            );
-            offered(true, both, 10, 0)
-        }
-        Line::Previous(window, left) => previous_broken(window, left, rows, sizes, row),
-        Line::Next(window, left) => next_broken(window, left, rows, sizes, row),
-        Line::Since(window, left, right) => since_broken(window, left, right, rows, sizes, row),
-        Line::Until(window, left, right) => until_broken(window, left, right, rows, sizes, row),
+        Line::Mark(mark) => offered(!spot.rows.all[spot.row].stands(mark as u32), ONE, 2, 0),
+        Line::Not(left) => by_one(known, true, 4, left, spot.row, Ruling::Held),
+        Line::And(left, right) => by_either(known, 6, left, right, Ruling::Broken),
+        Line::Or(left, right) => by_both(known, 10, left, right, Ruling::Broken),
+        Line::Previous(window, left) => previous_broken(known, window, left),
+        Line::Next(window, left) => next_broken(known, window, left),
+        Line::Since(window, left, right) => since_broken(known, window, left, right),
+        Line::Until(window, left, right) => until_broken(known, window, left, right),
     }
 }
 
-// What belongs into a held cell: none without line or row.
-pub(crate) fn held_best(table: &Table, rows: &[Row], sizes: &[u16], line: usize, row: usize) -> Best
-    requires { (Given (lines_of table.now) rows.now) × (8192 ≤ length sizes.now) }
-    ensures { result ≡ best_by (cell_in sizes.now) (lines_of table.now) rows.now (held_at line row) }
-{
-    if row >= rows.len() {
-        return NONE;
-    }
-    match table.line(line) {
-        Some(found) => held_at(found, rows, sizes, row),
-        None => NONE,
-    }
-}
-
-// What belongs into a broken cell: none without line or row.
-pub(crate) fn broken_best(
+// What belongs into the cells of a claim: none without line or row. Inlined, so that a row past the log's end costs no call.
+#[inline(always)]
+pub(crate) fn best<'a>(
     table: &Table,
-    rows: &[Row],
-    sizes: &[u16],
+    rows: Rows<'a>,
+    sizes: &'a [u16],
     line: usize,
     row: usize,
-) -> Best
-    requires { (Given (lines_of table.now) rows.now) × (8192 ≤ length sizes.now) }
-    ensures { result ≡ best_by (cell_in sizes.now) (lines_of table.now) rows.now (broken_at line row) }
+    ruling: Ruling,
+) -> Option<Offer>
+    ensures { cells_of result ≡ best_by (cell_in sizes.now) (lines_of table.now) rows.entry.all.now (claim line row ruling) }
 {
-    if row >= rows.len() {
-        return NONE;
+    if row >= rows.all.len() {
+        return None;
     }
-    match table.line(line) {
-        Some(found) => broken_at(found, rows, sizes, row),
-        None => NONE,
+    let line = table.line(line)?;
+    let spot = Spot { rows, row };
+    let known = Known { spot, sizes };
+    match ruling {
+        Ruling::Held => held_at(known, line),
+        Ruling::Broken => broken_at(known, line),
     }
 }

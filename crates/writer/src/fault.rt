@@ -1,7 +1,7 @@
 // Why a line at a row is not settled.
 mod telling;
 
-#[derive(Clone, Copy, Debug, PartialEq)]
+#[derive(Clone, Copy, Debug, PartialEq, Eq)]
 pub enum SettleFault {
     // The table has no line of that number.
     NoSuchLine,

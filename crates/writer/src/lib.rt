@@ -1,20 +1,23 @@
 //! Settling: from a rule table and the rows of a log to rulings, least sizes and shortest certificates.
 #![tactic(auto)]
 
-mod best;
 mod cells;
+mod children;
 mod choose;
 pub mod fault;
 mod fill;
-mod kids;
+mod known;
 mod log_rows;
 mod neighbours;
 mod nodes;
+mod offer;
+mod plan;
+mod rows;
 pub mod settle;
 mod since;
+mod spot;
 mod sums;
 mod until;
 mod way;
 mod ways;
-mod windows;
 mod write;

@@ -1,77 +1,62 @@
 // Since, in one pass over the rows of its window from the last to the first. The pass stops where a child has no certificate.
+// Until goes through the rows the other way, other of equals win there, and rules 22 and 23 have no likeness in it: one pass over
+// both would be switches at each step. What the passes take beside what is known are the parts of their line, which no fact joins.
 ghost use Rattle.std.specs.Prelude.{◌≡◌};
 ghost use Rattle.mtl.specs.Forms.{forms};
 ghost use Rattle.mtl.specs.declared.line.Line.TheVariants.{Since as since};
 ghost use Rattle.mtl.specs.declared.ruling.Ruling.TheVariants.{Held as held, Broken as broken};
-ghost use Rattle.writer.specs.Choice.{cell_in, of_forms, Ready};
+ghost use Rattle.writer.specs.Choice.{cell_in, of_forms, cells_of};
 
-use crate::best::{Best, NONE};
-use crate::cells::{broken_cell, held_cell};
-use crate::sums::{better, offered, plus, plus_if};
-use crate::windows::first_within;
+use crate::known::Known;
+use crate::offer::Offer;
+use crate::sums::{ONE, better, offered, plus, plus_if};
 use mtl::line::Window;
-use mtl::row::Row;
+use mtl::ruling::Ruling;
 
-pub(crate) fn since_held(
-    window: Window,
-    left: u8,
-    right: u8,
-    rows: &[Row],
-    sizes: &[u16],
-    row: usize,
-) -> Best
-    requires { Ready sizes.now rows.now left right row }
-    ensures { result ≡ of_forms (cell_in sizes.now) held (forms rows.now row (since window left right)) }
+pub(crate) fn since_held(known: Known<'_>, window: Window, left: u8, right: u8) -> Option<Offer>
+    ensures { cells_of result ≡ of_forms (cell_in known.entry.sizes.now) held (forms known.entry.spot.rows.all.now known.entry.spot.row (since window left right)) }
 {
-    let time = rows[row].time;
-    let mut best = NONE;
-    let mut sum = 1;
-    let start = first_within(window, rows, row);
-    for j in (start..row + 1).rev() {
-        if sum == 0 {
+    let spot = known.spot;
+    let mut best = None;
+    let mut sum = ONE;
+    let start = spot.first_within(window);
+    for j in (start..spot.row + 1).rev() {
+        if sum.is_none() {
             break;
         }
-        let met = window.from <= time.saturating_sub(rows[j].time);
+        let met = window.from <= spot.before(j);
         best = better(
-            offered(met, plus(sum, held_cell(sizes, right, j)), 20, j),
+            offered(met, plus(sum, known.size(right, j, Ruling::Held)), 20, j),
             best,
         );
-        sum = plus(sum, held_cell(sizes, left, j));
+        sum = plus(sum, known.size(left, j, Ruling::Held));
     }
     best
 }
 
-pub(crate) fn since_broken(
-    window: Window,
-    left: u8,
-    right: u8,
-    rows: &[Row],
-    sizes: &[u16],
-    row: usize,
-) -> Best
-    requires { Ready sizes.now rows.now left right row }
-    ensures { result ≡ of_forms (cell_in sizes.now) broken (forms rows.now row (since window left right)) }
+pub(crate) fn since_broken(known: Known<'_>, window: Window, left: u8, right: u8) -> Option<Offer>
+    ensures { cells_of result ≡ of_forms (cell_in known.entry.sizes.now) broken (forms known.entry.spot.rows.all.now known.entry.spot.row (since window left right)) }
 {
-    let time = rows[row].time;
-    let longest = time.saturating_sub(rows[0].time);
+    let spot = known.spot;
+    let longest = spot.before(0);
     if longest < window.from {
-        return offered(true, 1, 23, 0);
+        return offered(true, ONE, 23, 0);
     }
-    let mut best = NONE;
-    let mut late = 1;
-    let start = first_within(window, rows, row);
-    for j in (start + 1..row + 1).rev() {
-        let apart = time.saturating_sub(rows[j].time);
-        late = plus_if(window.from <= apart, late, broken_cell(sizes, right, j));
-        if late == 0 {
+    let mut best = None;
+    let mut late = ONE;
+    let start = spot.first_within(window);
+    for j in (start + 1..spot.row + 1).rev() {
+        let far = window.from <= spot.before(j);
+        late = plus_if(far, late, known.size(right, j, Ruling::Broken));
+        if late.is_none() {
             return best;
         }
         best = better(
-            offered(true, plus(late, broken_cell(sizes, left, j)), 21, j),
+            offered(true, plus(late, known.size(left, j, Ruling::Broken)), 21, j),
             best,
         );
     }
-    let far = window.from <= time.saturating_sub(rows[start].time);
-    let whole = plus_if(far, late, broken_cell(sizes, right, start));
+    let far = window.from <= spot.before(start);
+    let whole = plus_if(far, late, known.size(right, start, Ruling::Broken));
     better(best, offered(true, whole, 22, 0))
 }

@@ -1,65 +1,66 @@
 // Adding sizes up, and choosing the least.
-ghost use Rattle.std.specs.Prelude.{◌≡◌, ℕ, ◌+◌, ◌*◌, ◌/◌, ◌%◌, ◌<◌, ◌≤◌};
+ghost use Rattle.std.specs.Prelude.{◌≡◌, ℕ, ◌+◌, ◌*◌, ◌<◌};
 ghost use Rattle.mtl.specs.Cells.{add_cell};
-ghost use Rattle.writer.specs.Choice.{merge, offer, add_if};
+ghost use Rattle.writer.specs.Choice.{merge, offer, add_if, sized, cells_of};
 
-use crate::best::{Best, NONE};
+use crate::offer::{Offer, Pick};
+use std::num::NonZeroU16;
+
+// The size of a node without children.
+pub(crate) const ONE: Option<NonZeroU16> = Some(NonZeroU16::MIN);
 
 // The smaller of two, the first among equals.
-pub(crate) fn better(first: Best, second: Best) -> Best
-    ensures { result ≡ merge first second }
+pub(crate) fn better(first: Option<Offer>, second: Option<Offer>) -> Option<Offer>
+    ensures { cells_of result ≡ merge (cells_of first) (cells_of second) }
 {
-    if first.size != 0 && (second.size == 0 || first.size <= second.size) {
-        first
-    } else {
-        second
+    let Some(one) = first else {
+        return second;
+    };
+    let Some(two) = second else {
+        return first;
+    };
+    if one.size <= two.size { first } else { second }
+}
+
+// The size and the code that stand in the cells of a claim, 0 for none.
+pub(crate) fn entries(offer: Option<Offer>) -> (u16, u16)
+    ensures { (result.0 ≡ (cells_of offer).size) × (result.1 ≡ (cells_of offer).code) }
+{
+    offer.map_or((0, 0), |offer| (offer.size.get(), offer.pick.into()))
+}
+
+// A way of this size by a rule and a row j, if its condition is met. The condition is asked here and in `plus_if`, once for all rules:
+// as a filter it would stand at each of their calls.
+pub(crate) fn offered(met: bool, size: Option<NonZeroU16>, rule: u8, row: usize) -> Option<Offer>
+    requires { row < 128 }
+    ensures { cells_of result ≡ offer met (sized size) (256 * rule + row) }
+{
+    if !met {
+        return None;
     }
-}
-
-// A rule and a row j in one cell of the plan.
-fn packed(rule: u8, row: usize) -> u16
-    requires { (rule ≤ 26) × (row < 128) }
-    ensures { result ≡ 256 * rule + row }
-{
-    256 * rule as u16 + row as u16
-}
-
-// The rule and the row j of a cell of the plan.
-pub(crate) fn unpacked(code: u16) -> (u8, usize)
-    ensures { (result.0 ≡ code / 256) × (result.1 ≡ code % 256) }
-{
-    let [rule, row] = code.to_be_bytes();
-    (rule, row as usize)
-}
-
-// A way of this size by a rule and a row j, if its condition is met.
-pub(crate) fn offered(met: bool, size: u16, rule: u8, row: usize) -> Best
-    requires { (rule ≤ 26) × (row < 128) }
-    ensures { result ≡ offer met size (256 * rule + row) }
-{
-    if met && size != 0 {
-        Best {
-            size,
-            code: packed(rule, row),
-        }
-    } else {
-        NONE
-    }
+    Some(Offer {
+        size: size?,
+        pick: Pick {
+            rule,
+            row: row as u8,
+        },
+    })
 }
 
 // A sum with one more child's size: none if either is none, and never above 4,097.
-pub(crate) fn plus(sum: u16, size: u16) -> u16
-    ensures { result ≡ add_cell sum size }
+pub(crate) fn plus(sum: Option<NonZeroU16>, size: Option<NonZeroU16>) -> Option<NonZeroU16>
+    ensures { sized result ≡ add_cell (sized sum) (sized size) }
 {
-    if sum == 0 || size == 0 {
-        0
-    } else {
-        sum.saturating_add(size).min(4097)
-    }
+    let total = sum?.get().saturating_add(size?.get());
+    NonZeroU16::new(total.min(4097))
 }
 
-pub(crate) fn plus_if(met: bool, sum: u16, size: u16) -> u16
-    ensures { result ≡ add_if met sum size }
+pub(crate) fn plus_if(
+    met: bool,
+    sum: Option<NonZeroU16>,
+    size: Option<NonZeroU16>,
+) -> Option<NonZeroU16>
+    ensures { sized result ≡ add_if met (sized sum) (sized size) }
 {
     if met { plus(sum, size) } else { sum }
 }

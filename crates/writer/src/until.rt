@@ -1,80 +1,63 @@
 // Until, in one pass over the rows of its window from the first to the last. The pass stops where a child has no certificate.
-ghost use Rattle.std.specs.Prelude.{◌≡◌, ℕ, ◌-◌, ◌<◌, length};
+// Why it is no one pass with since is said there.
+ghost use Rattle.std.specs.Prelude.{◌≡◌, ◌-◌, length};
 ghost use Rattle.mtl.specs.Forms.{forms};
-ghost use Rattle.mtl.specs.Rows.{time_at};
 ghost use Rattle.mtl.specs.Windows.{past};
 ghost use Rattle.mtl.specs.declared.line.Line.TheVariants.{Until as until};
 ghost use Rattle.mtl.specs.declared.ruling.Ruling.TheVariants.{Held as held, Broken as broken};
-ghost use Rattle.writer.specs.Choice.{cell_in, of_forms, Ready};
+ghost use Rattle.writer.specs.Passes.{ago};
+ghost use Rattle.writer.specs.Choice.{cell_in, of_forms, cells_of};
 
-use crate::best::{Best, NONE};
-use crate::cells::{broken_cell, held_cell};
-use crate::sums::{better, offered, plus, plus_if};
-use crate::windows::{beyond, end_within};
+use crate::known::Known;
+use crate::offer::Offer;
+use crate::rows::Spot;
+use crate::sums::{ONE, better, offered, plus, plus_if};
 use mtl::line::Window;
-use mtl::row::Row;
+use mtl::ruling::Ruling;
 
-pub(crate) fn until_held(
-    window: Window,
-    left: u8,
-    right: u8,
-    rows: &[Row],
-    sizes: &[u16],
-    row: usize,
-) -> Best
-    requires { Ready sizes.now rows.now left right row }
-    ensures { result ≡ of_forms (cell_in sizes.now) held (forms rows.now row (until window left right)) }
+pub(crate) fn until_held(known: Known<'_>, window: Window, left: u8, right: u8) -> Option<Offer>
+    ensures { cells_of result ≡ of_forms (cell_in known.entry.sizes.now) held (forms known.entry.spot.rows.all.now known.entry.spot.row (until window left right)) }
 {
-    let time = rows[row].time;
-    let mut best = NONE;
-    let mut sum = 1;
-    let end = end_within(window, rows, row);
-    for j in row..end {
-        if sum == 0 {
+    let spot = known.spot;
+    let mut best = None;
+    let mut sum = ONE;
+    let end = spot.end_within(window);
+    for j in spot.row..end {
+        if sum.is_none() {
             break;
         }
-        let met = window.from <= rows[j].time.saturating_sub(time);
-        let way = offered(met, plus(sum, held_cell(sizes, right, j)), 24, j);
+        let met = window.from <= spot.after(j);
+        let way = offered(met, plus(sum, known.size(right, j, Ruling::Held)), 24, j);
         best = better(best, way);
-        sum = plus(sum, held_cell(sizes, left, j));
+        sum = plus(sum, known.size(left, j, Ruling::Held));
     }
     best
 }
 
 // Whether the window of a row lies wholly before the log's last time.
-fn has_closed(window: Window, rows: &[Row], row: usize) -> bool
-    requires { row < length rows.now }
-    ensures { result ≡ past window.to (time_at rows.now (length rows.now - 1) - time_at rows.now row) }
+fn has_closed(spot: Spot<'_>, window: Window) -> bool
+    ensures { result ≡ past window.to (ago spot.entry.rows.all.now (length spot.entry.rows.all.now - 1) spot.entry.row) }
 {
-    let after = rows[rows.len() - 1].time.saturating_sub(rows[row].time);
-    beyond(window, after)
+    window.beyond(spot.after(spot.rows.all.len() - 1))
 }
 
-pub(crate) fn until_broken(
-    window: Window,
-    left: u8,
-    right: u8,
-    rows: &[Row],
-    sizes: &[u16],
-    row: usize,
-) -> Best
-    requires { Ready sizes.now rows.now left right row }
-    ensures { result ≡ of_forms (cell_in sizes.now) broken (forms rows.now row (until window left right)) }
+pub(crate) fn until_broken(known: Known<'_>, window: Window, left: u8, right: u8) -> Option<Offer>
+    ensures { cells_of result ≡ of_forms (cell_in known.entry.sizes.now) broken (forms known.entry.spot.rows.all.now known.entry.spot.row (until window left right)) }
 {
-    let time = rows[row].time;
-    let mut best = NONE;
-    let mut late = 1;
-    let end = end_within(window, rows, row);
-    for j in row..end {
-        let apart = rows[j].time.saturating_sub(time);
-        late = plus_if(window.from <= apart, late, broken_cell(sizes, right, j));
-        if late == 0 {
+    let spot = known.spot;
+    let mut best = None;
+    let mut late = ONE;
+    let end = spot.end_within(window);
+    for j in spot.row..end {
+        let far = window.from <= spot.after(j);
+        late = plus_if(far, late, known.size(right, j, Ruling::Broken));
+        if late.is_none() {
             return best;
         }
         best = better(
             best,
-            offered(true, plus(late, broken_cell(sizes, left, j)), 25, j),
+            offered(true, plus(late, known.size(left, j, Ruling::Broken)), 25, j),
         );
     }
-    better(best, offered(has_closed(window, rows, row), late, 26, 0))
+    better(best, offered(has_closed(spot, window), late, 26, 0))
 }

@@ -4,12 +4,12 @@ ghost use Rattle.writer.specs.Told.{settle_number};
 
 use crate::fault::SettleFault;
 
-impl SettleFault {
-    // The question that is answered no.
-    pub fn number(self) -> u8
-        ensures { result ≡ settle_number self }
-    {
-        match self {
+// The question that is answered no.
+impl From<SettleFault> for u8 {
+    ghost from_gives = { λ fault number. number ≡ settle_number fault };
+
+    fn from(fault: SettleFault) -> u8 {
+        match fault {
             SettleFault::NoSuchLine => 21,
             SettleFault::NoSuchRow => 22,
             SettleFault::BufferShort => 23,

@@ -1,10 +1,16 @@
-use Rattle.std.proofs.Common.{arith}
+use Rattle.std.proofs.Common.{refl, arith}
 use Rattle.writer.specs.Choice.{cell_in}
 use Rattle.writer.proofs.Fixed.{next_broken, next_broken_last}
 use Rattle.writer.proofs.neighbours.next_broken.Goals as goal
 
-pub returns-then-row-rows : goal.returns-then-row-rows
-returns-then-row-rows c = let e = next_broken_last (cell_in c.args.sizes.now) c.args.rows.now c.args.row c.args.window c.args.left (omega arith) in cc
+pub returns-in-Some : goal.returns-in-Some
+returns-in-Some c =
+    let b = c.in-Some.ensures.some _ refl in
+    let e = next_broken (cell_in c.args.known.sizes.now) c.args.known.spot.rows.all.now c.args.known.spot.row c.args.window c.args.left (omega (arith, b.0)) in
+    cc
 
-pub returns : goal.returns
-returns c = let e = next_broken (cell_in c.args.sizes.now) c.args.rows.now c.args.row c.args.window c.args.left (omega (arith, c.requires.row_in)) in cc
+pub returns-in-None : goal.returns-in-None
+returns-in-None c =
+    let n = c.in-None.ensures.none refl in
+    let e = next_broken_last (cell_in c.args.known.sizes.now) c.args.known.spot.rows.all.now c.args.known.spot.row c.args.window c.args.left (omega (arith, n)) in
+    cc

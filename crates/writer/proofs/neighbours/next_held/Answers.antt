@@ -1,15 +1,16 @@
-use Rattle.std.proofs.Common.{◌+◌, ◌*◌, ap, ◌∙◌, ap₂, arith}
-use Rattle.mtl.specs.Cells.{add_cell}
-use Rattle.mtl.specs.Windows.{inside}
-use Rattle.writer.specs.Choice.{cell_in, offer}
+use Rattle.std.proofs.Common.{refl, arith}
+use Rattle.writer.specs.Choice.{cell_in}
 use Rattle.writer.proofs.Fixed.{next_held, next_held_last}
 use Rattle.writer.proofs.neighbours.next_held.Goals as goal
 
-pub returns-then-row-rows : goal.returns-then-row-rows
-returns-then-row-rows c = next_held_last (cell_in c.args.sizes.now) c.args.rows.now c.args.row c.args.window c.args.left (omega arith)
+pub returns-in_err-row_after : goal.returns-in_err-row_after
+returns-in_err-row_after c =
+    let n = c.row_after.ensures.none c.in_err-row_after.was in
+    let e = next_held_last (cell_in c.args.known.sizes.now) c.args.known.spot.rows.all.now c.args.known.spot.row c.args.window c.args.left (omega (arith, n)) in
+    cc
 
 pub returns : goal.returns
 returns c =
-    c.offered.ensures ∙
-    ap₂ (λ b s. offer b s (256 * 16 + 0)) (c.inside-met.ensures ∙ ap (inside c.args.window) c.saturating_sub.ensures) (c.plus.ensures ∙ ap (add_cell 1) c.held_cell.ensures) ∙
-    next_held (cell_in c.args.sizes.now) c.args.rows.now c.args.row c.args.window c.args.left (omega (arith, c.requires.row_in))
+    let b = c.in_ok-row_after.ensures.some _ refl in
+    let e = next_held (cell_in c.args.known.sizes.now) c.args.known.spot.rows.all.now c.args.known.spot.row c.args.window c.args.left (omega (arith, b.0)) in
+    cc

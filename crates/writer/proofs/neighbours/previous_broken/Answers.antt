@@ -1,10 +1,16 @@
-use Rattle.std.proofs.Common.{◌∙◌, arith}
+use Rattle.std.proofs.Common.{refl, arith}
 use Rattle.writer.specs.Choice.{cell_in}
 use Rattle.writer.proofs.Fixed.{previous_broken, previous_broken_first}
 use Rattle.writer.proofs.neighbours.previous_broken.Goals as goal
 
-pub returns-then-row-eq0 : goal.returns-then-row-eq0
-returns-then-row-eq0 c = c.offered.ensures ∙ previous_broken_first (cell_in c.args.sizes.now) c.args.rows.now c.args.row c.args.window c.args.left c.if-row-eq0.true
+pub returns-in-Some : goal.returns-in-Some
+returns-in-Some c =
+    let b = c.in-Some.ensures.some _ refl in
+    let e = previous_broken (cell_in c.args.known.sizes.now) c.args.known.spot.rows.all.now c.args.known.spot.row c.args.window c.args.left (omega (arith, b.0)) in
+    cc
 
-pub returns : goal.returns
-returns c = let e = previous_broken (cell_in c.args.sizes.now) c.args.rows.now c.args.row c.args.window c.args.left (omega arith) in cc
+pub returns-in-None : goal.returns-in-None
+returns-in-None c =
+    let n = c.in-None.ensures.none refl in
+    let e = previous_broken_first (cell_in c.args.known.sizes.now) c.args.known.spot.rows.all.now c.args.known.spot.row c.args.window c.args.left (omega (arith, n)) in
+    cc

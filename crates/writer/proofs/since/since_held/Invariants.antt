@@ -1,14 +1,10 @@
-use Rattle.std.proofs.Common.{◌≡◌, suc, ◌-◌, ◌≤◌}
-use Rattle.mtl.specs.Cells.{sum_cells}
-use Rattle.mtl.specs.Claims.{each}
-use Rattle.mtl.specs.Ranges.{run}
-use Rattle.mtl.specs.declared.ruling.Ruling.TheVariants.{Held as held}
-use Rattle.writer.specs.Choice.{cell_in, of_ways}
-use Rattle.writer.specs.Passes.{rule20}
+use Rattle.std.proofs.Common.{◌≡◌, ◌≤◌}
+use Rattle.writer.specs.Choice.{cell_in, cells_of, sized}
+use Rattle.writer.proofs.PassSince.{held_ways, held_sum}
 use Rattle.writer.proofs.since.since_held.Given as goal
 
 abbrev pub invariant-loop-j : goal.invariant-loop-j
 invariant-loop-j l =
-    (l.best ≡ of_ways (cell_in l.sizes) (rule20 l.rows l.row l.window l.left l.right) (run l.j (suc l.row - l.j))) ×
-    (l.sum ≡ sum_cells (cell_in l.sizes) 1 (each held l.left (run l.j (suc l.row - l.j)))) ×
+    (cells_of l.best ≡ held_ways (cell_in l.known.sizes.now) l.known.spot.rows.all.now l.known.spot.row l.window l.left l.right l.j) ×
+    (sized l.sum ≡ held_sum (cell_in l.known.sizes.now) l.known.spot.rows.all.now l.known.spot.row l.window l.left l.right l.j) ×
     (l.start ≤ l.j)

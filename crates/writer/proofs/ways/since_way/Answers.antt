@@ -1,23 +1,15 @@
+use Rattle.std.proofs.Common.{arith}
 use Rattle.writer.proofs.Ranging.{by_21, by_22, by_23}
+use Rattle.writer.specs.Choice.{code_of}
+use Rattle.writer.proofs.Making.{led}
+use Rattle.writer.proofs.Taking.{rule_in, row_in}
 use Rattle.writer.proofs.ways.since_way.Goals as goal
 
-pub returns-then-rule-eq21 : goal.returns-then-rule-eq21
-returns-then-rule-eq21 c =
-    record {
-      near = c.one_then.ensures.near;
-      kids = by_21 c.one_then.result c.args.code _ _ c.unpacked-rule.ensures.0 c.unpacked-rule.ensures.1 c.args.rows.now c.args.row c.args.window c.args.left c.args.right c.first_near-near.result c.first_near-near.ensures.high c.first_near-near.ensures.before c.first_near-near.ensures.after c.one_then.ensures c.if-rule-eq21.true;
-    }
+pub returns-in-21 : goal.returns-in-21
+returns-in-21 c = by_21 c.by_two.result (code_of c.args.pick) _ _ (rule_in c.args.pick (omega arith)) (row_in c.args.pick (omega arith)) c.args.spot.rows.all.now c.args.spot.row c.args.window c.args.left c.args.right c.first_near-near.result c.first_near-near.ensures.high c.first_near-near.ensures.before c.first_near-near.ensures.after (led c.by_two.ensures c.at.ensures) c.in-21.is
 
-pub returns-then-rule-eq22 : goal.returns-then-rule-eq22
-returns-then-rule-eq22 c =
-    record {
-      near = c.many.ensures.near;
-      kids = by_22 c.many.result c.args.code _ _ c.unpacked-rule.ensures.0 c.unpacked-rule.ensures.1 c.args.rows.now c.args.row c.args.window c.args.left c.args.right c.first_near-near.result c.first_near-near.ensures.high c.first_near-near.ensures.before c.first_near-near.ensures.after c.first_within.result c.first_within.ensures.low c.first_within.ensures.before c.first_within.ensures.after c.requires.row_in c.many.ensures c.if-rule-eq22.true;
-    }
+pub returns-in-22 : goal.returns-in-22
+returns-in-22 c = by_22 c.by.result (code_of c.args.pick) _ _ (rule_in c.args.pick (omega arith)) (row_in c.args.pick (omega arith)) c.args.spot.rows.all.now c.args.spot.row c.args.window c.args.left c.args.right c.first_near-near.result c.first_near-near.ensures.high c.first_near-near.ensures.before c.first_near-near.ensures.after c.first_within.result c.first_within.ensures.low c.first_within.ensures.before c.first_within.ensures.after c.args.spot.there c.by.ensures c.in-22.is
 
-pub returns-else-rule-eq22 : goal.returns-else-rule-eq22
-returns-else-rule-eq22 c =
-    record {
-      near = c.leaf.ensures.near;
-      kids = by_23 c.leaf.result c.args.code _ _ c.unpacked-rule.ensures.0 c.unpacked-rule.ensures.1 c.args.rows.now c.args.row c.args.window c.args.left c.args.right c.leaf.ensures c.if-rule-eq21.false c.if-rule-eq22.false;
-    }
+pub returns-in_default : goal.returns-in_default
+returns-in_default c = by_23 c.leaf.result (code_of c.args.pick) _ _ (rule_in c.args.pick (omega arith)) (row_in c.args.pick (omega arith)) c.args.spot.rows.all.now c.args.spot.row c.args.window c.args.left c.args.right c.leaf.ensures (λ e. omega arith) (λ e. omega arith)
