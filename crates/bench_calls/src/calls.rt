@@ -6,29 +6,24 @@ ghost use Rattle.bench_calls.specs.Numbers.{check_numbers, settle_numbers};
 ghost use Rattle.bench_calls.specs.Texts.{lines_in, rows_in, check_on, settle_on};
 
 use crate::answers::{Checked, Settling};
-use crate::numbers::{check_numbers, settle_numbers};
 use crate::repeats::{check_again, settle_again};
 use crate::texts_read::{log_of, table_of};
-use mtl::ruling::{Claim, Ruling};
+use mtl::ruling::Claim;
 
 // Check on the texts' table and rows, with a stack of 4,096 claims: the last answer.
 #[unsafe(no_mangle)]
 pub extern "C" fn bench_check(rules: &[u8], log: &[u8], certificate: &[u8], again: u32) -> Checked
     ensures { result ≡ check_numbers (check_on rules.now log.now certificate.now) }
 {
-    let mut stack = [Claim {
-        line: 0,
-        row: 0,
-        ruling: Ruling::Held,
-    }; 4096];
-    let answer = check_again(
+    let mut stack = [Claim::BLANK; 4096];
+    check_again(
         &table_of(rules),
         &log_of(log),
         certificate,
         &mut stack,
         again,
-    );
-    check_numbers(answer)
+    )
+    .into()
 }
 
 // Settle on the texts' table and rows: the last answer, and what it leaves in the buffers.
@@ -48,6 +43,5 @@ pub extern "C" fn bench_settle(
 {
     let table = table_of(rules);
     let log = log_of(log);
-    let answer = settle_again(&table, &log, line, row, sizes, plan, out, again);
-    settle_numbers(answer)
+    settle_again(&table, &log, line, row, sizes, plan, out, again).into()
 }

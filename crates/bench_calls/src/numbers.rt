@@ -1,66 +1,57 @@
 // From the answers of Check and Settle to numbers.
-ghost use Rattle.std.specs.Prelude.{◌≡◌, Err as failed};
+ghost use Rattle.std.specs.Prelude.{◌≡◌};
 ghost use Rattle.checker.specs.Told.{told as check_told};
 ghost use Rattle.writer.specs.Told.{told as settle_told};
-ghost use Rattle.mtl.specs.Checking.{refused as refused_by};
 ghost use Rattle.bench_calls.specs.Numbers.{check_numbers, settle_numbers};
 
 use crate::answers::{Checked, Settling};
-use checker::fault::CheckFault;
+use checker::fault::{CheckFault, RefusedAt};
 use mtl::ruling::{Claim, Ruling, Settled};
 use writer::fault::SettleFault;
 
-fn refused(question: u8, node: usize) -> Checked
-    ensures { result ≡ check_numbers (refused_by question node) }
-{
-    Checked {
-        question,
-        node,
-        line: 0,
-        row: 0,
-        held: false,
-    }
-}
-
 // What Check answered.
-pub(crate) fn check_numbers(answer: Result<Claim, CheckFault>) -> Checked
-    ensures { result ≡ check_numbers (check_told answer) }
-{
-    match answer {
-        Ok(claim) => Checked {
-            question: 0,
-            node: 0,
-            line: claim.line,
-            row: claim.row,
-            held: matches!(claim.ruling, Ruling::Held),
-        },
-        Err(fault) => {
-            let (question, node) = fault.told();
-            refused(question, node)
+impl From<Result<Claim, CheckFault>> for Checked {
+    ghost from_gives = { λ answer numbers. numbers ≡ check_numbers (check_told answer) };
+
+    fn from(answer: Result<Claim, CheckFault>) -> Checked {
+        match answer {
+            Ok(claim) => Checked {
+                question: 0,
+                node: 0,
+                line: claim.line,
+                row: claim.row,
+                held: claim.ruling == Ruling::Held,
+            },
+            Err(fault) => {
+                let RefusedAt {
+                    number: question,
+                    node,
+                } = fault.into();
+                Checked {
+                    question,
+                    node,
+                    ..Checked::default()
+                }
+            }
         }
     }
 }
 
-fn unsettled(question: u8) -> Settling
-    ensures { result ≡ settle_numbers (failed question) }
-{
-    Settling {
-        question,
-        size: 0,
-        held: false,
-    }
-}
-
 // What Settle answered.
-pub(crate) fn settle_numbers(answer: Result<Settled, SettleFault>) -> Settling
-    ensures { result ≡ settle_numbers (settle_told answer) }
-{
-    match answer {
-        Ok(settled) => Settling {
-            question: 0,
-            size: settled.size,
-            held: matches!(settled.ruling, Ruling::Held),
-        },
-        Err(fault) => unsettled(fault.number()),
+impl From<Result<Settled, SettleFault>> for Settling {
+    ghost from_gives = { λ answer numbers. numbers ≡ settle_numbers (settle_told answer) };
+
+    fn from(answer: Result<Settled, SettleFault>) -> Settling {
+        match answer {
+            Ok(settled) => Settling {
+                question: 0,
+                size: settled.size,
+                held: settled.ruling == Ruling::Held,
+            },
+            Err(fault) => Settling {
+                question: fault.into(),
+                ..Settling::default()
+            },
+        }
     }
 }

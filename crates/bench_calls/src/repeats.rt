@@ -1,4 +1,5 @@
 // Check and Settle, made so many times and then once more.
+// Two loops, and not one over a closure: what a call leaves in the buffers would have to be said of any closure.
 ghost use Rattle.std.specs.Prelude.{◌≡◌, length};
 ghost use Rattle.checker.specs.Told.{told as check_told};
 ghost use Rattle.logs.specs.contracts.mask.MaskLogReadable.TheImpl.{ghosts as MaskRows};
@@ -26,13 +27,14 @@ pub(crate) fn check_again(
 ) -> Result<Claim, CheckFault>
     ensures { check_told result ≡ check_answer (lines_of table.now) (MaskRows.rows log.now) certificate.now (length stack.old) }
 {
-    for _round in 0..again {
+    for _ in 0..again {
         let _ = check(table, log, certificate, stack);
     }
     check(table, log, certificate, stack)
 }
 
-// The last answer of Settle; the buffers are left as by one call.
+// The last answer of Settle; the buffers are left as by one call. They stay three slices, as C hands them over: each has a
+// length of its own that a question asks about, and no fact joins them, so a struct would only rename them.
 pub(crate) fn settle_again(
     table: &Table,
     log: &MaskLog,
@@ -46,7 +48,7 @@ pub(crate) fn settle_again(
     ensures answer { settle_told result ≡ settle_answer (lines_of table.now) (MaskRows.rows log.now) line row (lengths (length sizes.old) (length plan.old) (length out.old)) }
     ensures buffers { Fills (lines_of table.now) (MaskRows.rows log.now) line row (settle_told result) sizes.old sizes.new plan.old plan.new out.old out.new }
 {
-    for _round in 0..again {
+    for _ in 0..again {
         let _ = settle(table, log, line, row, sizes, plan, out);
     }
     settle(table, log, line, row, sizes, plan, out)

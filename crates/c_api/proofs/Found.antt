@@ -1,18 +1,20 @@
 -- From what Check and Settle say of a table and rows to what is said of the texts.
-use Rattle.std.proofs.Common.{◌≡◌, ℕ, zero, suc, ◌*◌, ◌≤◌, List, [], ◌∷◌, ◌++◌, length, take, drop, Ok, Err, Result, refl, ap, ◌∙◌, subst, lit≤}
+use Rattle.std.proofs.Common.{◌≡◌, ℕ, ◌≤◌, List, [], Ok, Err, Result, sym, subst, lit≤}
 use Rattle.mtl.specs.declared.row.Row.{Row}
+use Rattle.mtl.specs.declared.ruling.Claim.{Claim}
 use Rattle.mtl.specs.declared.ruling.Settled.{Settled}
+use Rattle.mtl.specs.Checking.{refused}
+use Rattle.mtl.specs.Laws.{CheckSays, SettleSays}
 use Rattle.mtl.specs.Lines.{Rules}
-use Rattle.mtl.specs.Settling.{settle_answer, settle_writes, wrote}
-use Rattle.checker.specs.Told.{fault_told}
+use Rattle.mtl.specs.Settling.{wrote}
+use Rattle.checker.specs.Told.{told as check_told, fault_told}
 use Rattle.checker.specs.declared.fault.CheckFault.{CheckFault}
 use Rattle.checker.specs.declared.fault.CheckFault.TheVariants as check
-use Rattle.writer.specs.Told.{settle_number}
+use Rattle.writer.specs.Told.{told as settle_told, settle_number}
 use Rattle.writer.specs.declared.fault.SettleFault.{SettleFault}
 use Rattle.writer.specs.declared.fault.SettleFault.TheVariants as settle
-use Rattle.c_api.specs.Meanings.{ReadAny}
-use Rattle.c_api.specs.Outputs.{or_none, settle_bytes, overwritten}
-use Rattle.c_api.specs.Readings.{table_in, rows_in, room_for}
+use Rattle.c_api.specs.Meanings.{ReadAny, CheckFound, SettleFound}
+use Rattle.c_api.specs.Readings.{by_verdict, by_number, table_in, rows_in, room_for}
 
 -- no fault has the number 0
 pub check_counts : (f : CheckFault) → 1 ≤ (fault_told f).0
@@ -42,20 +44,18 @@ read_as rules log T R t r P p T' R' reads =
     let b : R ≡ R' = cc in
     subst (λ X. P X R') a (subst (P T) b p)
 
--- the front of a list and what stands after it
-rejoined : (m : ℕ) (xs : List ℕ) → xs ≡ take m xs ++ drop (length (take m xs)) xs
-rejoined zero xs = refl
-rejoined (suc m) [] = refl
-rejoined (suc m) (x ∷ xs) = ap (λ l. x ∷ l) (rejoined m xs)
+-- what Check says of the table and the rows that the texts give
+pub check_found :
+    (rules log cert : List ℕ) (T : Rules) (R : List Row) (a : Result Claim CheckFault) → Ok T ≡ table_in rules → Ok R ≡ rows_in log →
+    CheckSays T R cert 4096 (check_told a) → CheckFound rules log cert (by_verdict (check_told a))
+check_found rules log cert T R (Ok c) t r says = (T, R, record { table = sym t; rows = sym r }, says)
+check_found rules log cert T R (Err f) t r says =
+    (check_counts f, read_as rules log T R t r (λ X Y. CheckSays X Y cert 4096 (refused (fault_told f).0 (fault_told f).1)) says)
 
-whole : (a : Result Settled ℕ) (out : List ℕ) → out ≡ wrote a out ++ drop (length (wrote a out)) out
-whole (Ok s) out = rejoined (6 * s.size) out
-whole (Err q) out = refl
-
-pub output_is : (rules log : List ℕ) (T : Rules) (R : List Row) (n i : ℕ) (out out' : List ℕ) (a : Result Settled ℕ) →
-    Ok T ≡ table_in rules → Ok R ≡ rows_in log → a ≡ settle_answer T R n i (room_for (length out)) → wrote a out' ≡ settle_writes T R n i a →
-    drop (length (wrote a out')) out' ≡ drop (length (wrote a out')) out → out' ≡ overwritten (settle_bytes rules log n i (length out)) out
-output_is rules log T R n i out out' a t r answer written kept =
-    let bytes : wrote a out' ≡ settle_bytes rules log n i (length out) =
-    written ∙ ap (settle_writes T R n i) answer ∙ (λ k. or_none (t k) (λ X. or_none (r k) (λ Y. settle_writes X Y n i (settle_answer X Y n i (room_for (length out)))))) in
-    whole a out' ∙ ap (λ l. wrote a out' ++ l) kept ∙ ap (λ b. overwritten b out) bytes
+-- what Settle says of them
+pub settle_found :
+    (rules log : List ℕ) (T : Rules) (R : List Row) (n i room : ℕ) (out : List ℕ) (a : Result Settled SettleFault) → Ok T ≡ table_in rules → Ok R ≡ rows_in log →
+    SettleSays T R n i (room_for room) (settle_told a) (wrote (settle_told a) out) → SettleFound rules log n i room out (by_number (settle_told a))
+settle_found rules log T R n i room out (Ok s) t r says = (T, R, record { table = sym t; rows = sym r }, says)
+settle_found rules log T R n i room out (Err f) t r says =
+    (settle_counts f, read_as rules log T R t r (λ X Y. SettleSays X Y n i (room_for room) (Err (settle_number f)) []) says)

@@ -1,5 +1,5 @@
 -- Every refusal in numbers.
-use Rattle.std.specs.Prelude.{ℕ}
+use Rattle.std.specs.Prelude.{ℕ, Ok, Err, Result}
 use Rattle.texts.specs.Faults.{told}
 use Rattle.texts.specs.declared.fault.Told.{Told}
 use Rattle.texts.specs.declared.fault.Layer.{Layer}
@@ -38,3 +38,8 @@ refused_by (Rules f) = in_rules (told f)
 refused_by (Log f) = in_log (told f)
 refused_by (Check f) = at_node (fault_told f).0 (fault_told f).1
 refused_by (Settle f) = at_node (settle_number f) 0
+
+-- the refusal, or none where the call is accepted
+abbrev pub refused_or_none : {A : Type 0} → Result A Refused → Refused
+refused_or_none (Ok a) = unrefused
+refused_or_none (Err e) = e

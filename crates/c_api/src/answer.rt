@@ -1,7 +1,7 @@
-// What the exported functions answer, in numbers. A value of which there is nothing to tell is 0.
+// What the exported functions answer. What C is told is numbers, a wanted form (docs/DECISIONS.md); where there is nothing to tell, the number is 0.
 
 // Why a call is refused, and where the fault stands.
-#[derive(Clone, Copy, Debug, PartialEq)]
+#[derive(Clone, Copy, Debug, Default, PartialEq, Eq)]
 #[repr(C)]
 pub struct Refused {
     // The number of the question that is answered no, 1 to 31; 0 if the call is accepted.
@@ -19,7 +19,7 @@ pub struct Refused {
 }
 
 // What reading a text answers.
-#[derive(Clone, Copy, Debug, PartialEq)]
+#[derive(Clone, Copy, Debug, Default, PartialEq, Eq)]
 #[repr(C)]
 pub struct ReadAnswer {
     pub refusal: Refused,
@@ -28,7 +28,7 @@ pub struct ReadAnswer {
 }
 
 // What Check answers: the claim that the certificate proves.
-#[derive(Clone, Copy, Debug, PartialEq)]
+#[derive(Clone, Copy, Debug, Default, PartialEq, Eq)]
 #[repr(C)]
 pub struct CheckAnswer {
     pub refusal: Refused,
@@ -39,7 +39,7 @@ pub struct CheckAnswer {
 }
 
 // What Settle answers.
-#[derive(Clone, Copy, Debug, PartialEq)]
+#[derive(Clone, Copy, Debug, Default, PartialEq, Eq)]
 #[repr(C)]
 pub struct SettleAnswer {
     pub refusal: Refused,

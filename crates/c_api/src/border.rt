@@ -1,16 +1,16 @@
 // The border to C: every answer and every refusal in numbers.
 ghost use Rattle.std.specs.Prelude.{◌≡◌};
-ghost use Rattle.checker.specs.Told.{fault_told};
 ghost use Rattle.c_api.specs.Answers.{ruling_code, of_claim, of_settled};
 ghost use Rattle.c_api.specs.Readings.{telling};
-ghost use Rattle.c_api.specs.Refusals.{layer_code, in_text, at_node, unrefused, refused_by};
+ghost use Rattle.c_api.specs.Refusals.{layer_code, in_text, at_node, refused_by, refused_or_none};
 
 use crate::answer::{CheckAnswer, Refused, SettleAnswer};
 use crate::refusal::Refusal;
-use checker::fault::CheckFault;
+use checker::fault::RefusedAt;
 use mtl::ruling::{Claim, Ruling, Settled};
 use texts::fault::{Layer, Told};
 
+// C tells layers and rulings by numbers; both types are of other crates, so that no From can stand here.
 fn layer_code(layer: Layer) -> u32
     ensures { result ≡ layer_code layer }
 {
@@ -35,7 +35,7 @@ fn in_text(text: u32, told: Told) -> Refused
     ensures { result ≡ in_text text told }
 {
     Refused {
-        number: told.number as u32,
+        number: told.number.into(),
         text,
         layer: layer_code(told.layer),
         line: told.line,
@@ -45,81 +45,79 @@ fn in_text(text: u32, told: Told) -> Refused
 }
 
 // A refusal that has no place but perhaps a node.
-fn at_node(number: u32, node: usize) -> Refused
+fn at_node(number: u8, node: usize) -> Refused
     ensures { result ≡ at_node number node }
 {
     Refused {
-        number,
-        text: 0,
-        layer: 0,
-        line: 0,
-        field: 0,
+        number: number.into(),
         node,
+        ..Refused::default()
     }
 }
 
-fn of_check(fault: CheckFault) -> Refused
-    ensures { result ≡ at_node (fault_told fault).0 (fault_told fault).1 }
-{
-    let (number, node) = fault.told();
-    at_node(number as u32, node)
+impl From<Refusal> for Refused {
+    ghost from_gives = { λ refusal refused. refused ≡ refused_by refusal };
+
+    fn from(refusal: Refusal) -> Refused {
+        match refusal {
+            Refusal::Rules(fault) => in_text(1, fault.into()),
+            Refusal::Log(fault) => in_text(2, fault.into()),
+            Refusal::Check(fault) => {
+                let RefusedAt { number, node } = fault.into();
+                at_node(number, node)
+            }
+            Refusal::Settle(fault) => at_node(fault.into(), 0),
+        }
+    }
 }
 
-// No refusal.
-pub(crate) fn unrefused() -> Refused
-    ensures { result ≡ unrefused }
-{
-    at_node(0, 0)
-}
+// The refusal of a text, or none where it is read.
+impl From<Result<(), Refusal>> for Refused {
+    ghost from_gives = { λ read refused. refused ≡ refused_or_none (telling read) };
 
-impl Refusal {
-    // The refusal in numbers.
-    pub(crate) fn refused(self) -> Refused
-        ensures { result ≡ refused_by self }
-    {
-        match self {
-            Refusal::Rules(fault) => in_text(1, fault.told()),
-            Refusal::Log(fault) => in_text(2, fault.told()),
-            Refusal::Check(fault) => of_check(fault),
-            Refusal::Settle(fault) => at_node(fault.number() as u32, 0),
+    fn from(read: Result<(), Refusal>) -> Refused {
+        match read {
+            Ok(()) => Refused::default(),
+            Err(refusal) => refusal.into(),
         }
     }
 }
 
 // Check's answer in numbers.
-pub(crate) fn of_claim(answer: Result<Claim, Refusal>) -> CheckAnswer
-    ensures { result ≡ of_claim (telling answer) }
-{
-    match answer {
-        Ok(Claim { line, row, ruling }) => CheckAnswer {
-            refusal: unrefused(),
-            line: line as u32,
-            row: row as u32,
-            ruling: ruling_code(ruling),
-        },
-        Err(refusal) => CheckAnswer {
-            refusal: refusal.refused(),
-            line: 0,
-            row: 0,
-            ruling: 0,
-        },
+impl From<Result<Claim, Refusal>> for CheckAnswer {
+    ghost from_gives = { λ found answer. answer ≡ of_claim (telling found) };
+
+    fn from(found: Result<Claim, Refusal>) -> CheckAnswer {
+        match found {
+            Ok(claim) => CheckAnswer {
+                refusal: Refused::default(),
+                line: claim.line.into(),
+                row: claim.row.into(),
+                ruling: ruling_code(claim.ruling),
+            },
+            Err(refusal) => CheckAnswer {
+                refusal: refusal.into(),
+                ..CheckAnswer::default()
+            },
+        }
     }
 }
 
 // Settle's answer in numbers.
-pub(crate) fn of_settled(answer: Result<Settled, Refusal>) -> SettleAnswer
-    ensures { result ≡ of_settled (telling answer) }
-{
-    match answer {
-        Ok(Settled { ruling, size }) => SettleAnswer {
-            refusal: unrefused(),
-            ruling: ruling_code(ruling),
-            size: size as u32,
-        },
-        Err(refusal) => SettleAnswer {
-            refusal: refusal.refused(),
-            ruling: 0,
-            size: 0,
-        },
+impl From<Result<Settled, Refusal>> for SettleAnswer {
+    ghost from_gives = { λ found answer. answer ≡ of_settled (telling found) };
+
+    fn from(found: Result<Settled, Refusal>) -> SettleAnswer {
+        match found {
+            Ok(settled) => SettleAnswer {
+                refusal: Refused::default(),
+                ruling: ruling_code(settled.ruling),
+                size: settled.size.into(),
+            },
+            Err(refusal) => SettleAnswer {
+                refusal: refusal.into(),
+                ..SettleAnswer::default()
+            },
+        }
     }
 }

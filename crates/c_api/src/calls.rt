@@ -6,7 +6,6 @@ ghost use Rattle.c_api.specs.Outputs.{settle_bytes, overwritten};
 ghost use Rattle.c_api.specs.Readings.{rules_read, log_read};
 
 use crate::answer::{CheckAnswer, ReadAnswer, SettleAnswer};
-use crate::border::{of_claim, of_settled, unrefused};
 use crate::judging::{checked, settled};
 use crate::refusal::Refusal;
 use logs::mask::MaskLog;
@@ -15,18 +14,16 @@ use mtl::draft::Draft;
 use texts::log::read_log;
 use texts::rules::read_rules;
 
-// Reads a rules text, and tells how many lines its table has.
+// Reads a rules text, and tells how many lines its table has. It and the next stay two: C calls each by its own name, and what
+// reads, counts and refuses differs.
 pub fn sanqizhet_read_rules_nonnull(text: &[u8]) -> ReadAnswer
     ensures answer { result ≡ read_rules_returns text.now }
     ensures says { ReadMeans (rules_read text.now) result }
 {
     let mut draft = Draft::new();
-    let refusal = match read_rules(text, &mut draft) {
-        Ok(()) => unrefused(),
-        Err(fault) => Refusal::Rules(fault).refused(),
-    };
+    let read = read_rules(text, &mut draft).map_err(Refusal::Rules);
     ReadAnswer {
-        refusal,
+        refusal: read.into(),
         count: draft.len(),
     }
 }
@@ -37,12 +34,9 @@ pub fn sanqizhet_read_log_nonnull(text: &[u8]) -> ReadAnswer
     ensures says { ReadMeans (log_read text.now) result }
 {
     let mut log = MaskLog::new();
-    let refusal = match read_log(text, &mut log) {
-        Ok(()) => unrefused(),
-        Err(fault) => Refusal::Log(fault).refused(),
-    };
+    let read = read_log(text, &mut log).map_err(Refusal::Log);
     ReadAnswer {
-        refusal,
+        refusal: read.into(),
         count: log.len(),
     }
 }
@@ -52,7 +46,7 @@ pub fn sanqizhet_check_nonnull(rules: &[u8], log: &[u8], certificate: &[u8]) -> 
     ensures answer { result ≡ check_returns rules.now log.now certificate.now }
     ensures says { CheckMeans rules.now log.now certificate.now result }
 {
-    of_claim(checked(rules, log, certificate))
+    checked(rules, log, certificate).into()
 }
 
 // Settles a line at a row of the table and the log of two texts, and writes the shortest certificate
@@ -68,5 +62,5 @@ pub fn sanqizhet_settle_nonnull(
     ensures written { out.new ≡ overwritten (settle_bytes rules.now log.now line row (length out.old)) out.old }
     ensures says { SettleMeans rules.now log.now line row (length out.old) out.new result }
 {
-    of_settled(settled(rules, log, line, row, out))
+    settled(rules, log, line, row, out).into()
 }

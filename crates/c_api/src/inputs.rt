@@ -14,10 +14,8 @@ pub(crate) fn table_of(text: &[u8]) -> Result<Table, Refusal>
     ensures { table_told result ≡ table_in text.now }
 {
     let mut draft = Draft::new();
-    match read_rules(text, &mut draft) {
-        Ok(()) => Ok(draft.close()),
-        Err(fault) => Err(Refusal::Rules(fault)),
-    }
+    read_rules(text, &mut draft).map_err(Refusal::Rules)?;
+    Ok(draft.close())
 }
 
 // The log of a log text.
@@ -25,8 +23,6 @@ pub(crate) fn log_of(text: &[u8]) -> Result<MaskLog, Refusal>
     ensures { rows_told result ≡ rows_in text.now }
 {
     let mut log = MaskLog::new();
-    match read_log(text, &mut log) {
-        Ok(()) => Ok(log),
-        Err(fault) => Err(Refusal::Log(fault)),
-    }
+    read_log(text, &mut log).map_err(Refusal::Log)?;
+    Ok(log)
 }

@@ -7,15 +7,8 @@ ghost use Rattle.c_api.specs.Readings.{telling, check_finds, settle_finds};
 use crate::inputs::{log_of, table_of};
 use crate::refusal::Refusal;
 use checker::check::check;
-use mtl::ruling::{Claim, Ruling, Settled};
+use mtl::ruling::{Claim, Settled};
 use writer::settle::settle;
-
-// What a place of the stack holds before it is used.
-const BLANK: Claim = Claim {
-    line: 0,
-    row: 0,
-    ruling: Ruling::Held,
-};
 
 // The claim that a certificate proves on the texts' table and log.
 pub(crate) fn checked(rules: &[u8], log: &[u8], certificate: &[u8]) -> Result<Claim, Refusal>
@@ -24,11 +17,8 @@ pub(crate) fn checked(rules: &[u8], log: &[u8], certificate: &[u8]) -> Result<Cl
 {
     let table = table_of(rules)?;
     let log = log_of(log)?;
-    let mut stack = [BLANK; 4096];
-    match check(&table, &log, certificate, &mut stack) {
-        Ok(claim) => Ok(claim),
-        Err(fault) => Err(Refusal::Check(fault)),
-    }
+    let mut stack = [Claim::BLANK; 4096];
+    check(&table, &log, certificate, &mut stack).map_err(Refusal::Check)
 }
 
 // The ruling of a line at a row of the texts' table and log, with its certificate in the output.
@@ -47,8 +37,5 @@ pub(crate) fn settled(
     let log = log_of(log)?;
     let mut sizes = [0; 8192];
     let mut plan = [0; 8192];
-    match settle(&table, &log, line, row, &mut sizes, &mut plan, out) {
-        Ok(settled) => Ok(settled),
-        Err(fault) => Err(Refusal::Settle(fault)),
-    }
+    settle(&table, &log, line, row, &mut sizes, &mut plan, out).map_err(Refusal::Settle)
 }

@@ -1,8 +1,6 @@
 -- What each event keeps, and what its ruling rests on.
-use Rattle.std.proofs.Common.{◌≡◌, ℕ, ◌-◌, ◌<◌, ◌≤◌, Bool, true, false, cond, T as Yes, leb, List, [], ◌∷◌, ◌++◌, length, Some, None, Ok, Err, Result, sym, refl, ap, ◌∙◌, subst, subst₂, append_assoc, le_refl, arith, leb→le, length-append}
-use native.Mathlib.Decide.{dec_lt}
+use Rattle.std.proofs.Common.{◌≡◌, ℕ, ◌≤◌, Bool, true, false, cond, T as Yes, leb, List, [], ◌∷◌, ◌++◌, Some, None, Ok, Err, Result, sym, refl, ap, ◌∙◌, subst, append_assoc, arith, leb→le, length-append}
 use lib.ListN.{get_or-append}
-use lib.Seq.{get_or-append_seam}
 use Rattle.logs.specs.Answers.{add_answer, grown}
 use Rattle.mtl.specs.Bytes.{nodes}
 use Rattle.mtl.specs.Certificates.{Certified}
@@ -12,13 +10,14 @@ use Rattle.mtl.specs.Continuations.{Continues, TrueIn, Always}
 use Rattle.mtl.specs.Lines.{WellFormed}
 use Rattle.mtl.specs.Lists.{here, there}
 use Rattle.mtl.specs.Questions.{answer}
-use Rattle.mtl.specs.Rows.{NeverFalls, row_at, blank, time_at, last_time}
+use Rattle.mtl.specs.Rows.{NeverFalls, last_time}
 use Rattle.mtl.specs.declared.row.Row.{Row}
 use Rattle.mtl.specs.declared.ruling.Claim.{Claim}
 use Rattle.mtl.proofs.Exact.{accepted_certificate}
-use Rattle.mtl.proofs.Lists.{append_none}
+use Rattle.std.proofs.lemmas.List.{append-nil}
 use Rattle.mtl.proofs.Settles.{ruled}
 use Rattle.mtl.proofs.Sound.{sound}
+use Rattle.logs.proofs.RowLists.{never_falls_push}
 use Rattle.cases.specs.Runs.{State, Event, Added, Presented, Ruled, Looked, rules, rows_after, Step, Run, done, then}
 use Rattle.cases.specs.Law.{Gave, rows_held, Happened}
 
@@ -26,32 +25,13 @@ pub record Good (s : State) : Type 0 where
   pub formed : WellFormed s.table
   pub rising : NeverFalls s.rows
 
-rising_push : (R : List Row) (x : Row) → NeverFalls R → last_time R ≤ x.time → NeverFalls (R ++ x ∷ [])
-rising_push R x up h i j le lt =
-    let l = length-append R (x ∷ []) in
-    elim (dec_lt j (length R)) [
-      | yes in-R ↦ subst₂ (λ a b. a.time ≤ b.time) (sym (before i (omega arith))) (sym (before j in-R)) (up i j le in-R)
-      | no out ↦
-          let e : length R ≡ j = omega arith in
-          let last : row_at (R ++ x ∷ []) j ≡ x = ap (λ m. row_at (R ++ x ∷ []) m) (sym e) ∙ get_or-append_seam R x [] blank in
-          elim (dec_lt i (length R)) [
-            | yes lo ↦
-                let m = up i (length R - 1) (omega arith) (omega arith) in
-                subst₂ (λ a b. a.time ≤ b.time) (sym (before i lo)) (sym last) (omega arith)
-            | no hi ↦ let k : i ≡ j = omega arith in subst (λ m. time_at (R ++ x ∷ []) m ≤ time_at (R ++ x ∷ []) j) (sym k) (le_refl _)
-          ]
-    ]
-  where
-    before : (k : ℕ) → k < length R → row_at (R ++ x ∷ []) k ≡ row_at R k
-    before k h = get_or-append R (x ∷ []) blank k h
-
 added_rising : (R : List Row) (x : Row) (b : Bool) (a : Result (Unit {0}) ℕ) → NeverFalls R → a ≡ add_answer R x b → NeverFalls (grown R x a)
 added_rising R x b (Err q) up e = up
-added_rising R x b (Ok u) up e = rising_push R x up (go (leb (last_time R) x.time) (leb→le _ _) e)
+added_rising R x b (Ok u) up e = never_falls_push R x up (go (leb (last_time R) x.time) (leb→le _ _) e)
   where
     go : (c : Bool) → (Yes c → last_time R ≤ x.time) → Ok u ≡ answer (cond c (cond b None (Some 8)) (Some 7)) tt → last_time R ≤ x.time
     go true f e = f tt
-    go false f e = let z : ◌≡◌ {A = ℕ} 0 1 = cc in absurd (omega arith)
+    go false f e = cc
 
 rises : (s : State) (e : Event) (t : State) → Step s e t → NeverFalls s.rows → NeverFalls (rows_after s.rows e)
 rises s (Added x a) t st up = added_rising s.rows x (s.room s.rows x) a up st.answers
@@ -68,12 +48,12 @@ step_good s e t st g =
 
 -- a ruling rests on a certificate
 pub ruling_cert : (s : State) (e : Event) (t : State) → Step s e t → Good s → (c : Claim) → rules e ≡ Some c → Certified s.table s.rows c
-ruling_cert s (Added x a) t st g c e = let z : ◌≡◌ {A = ℕ} 0 1 = cc in absurd (omega arith)
-ruling_cert s (Presented cert stack (refused q d)) t st g c e = let z : ◌≡◌ {A = ℕ} 0 1 = cc in absurd (omega arith)
+ruling_cert s (Added x a) t st g c e = cc
+ruling_cert s (Presented cert stack (refused q d)) t st g c e = cc
 ruling_cert s (Presented cert stack (accepted d)) t st g c e =
     let k : d ≡ c = cc in (nodes cert, (accepted_certificate s.table s.rows c cert stack (sym st.answers ∙ ap accepted k)).2)
-ruling_cert s (Ruled n i ls (Err q) out) t st g c e = let z : ◌≡◌ {A = ℕ} 0 1 = cc in absurd (omega arith)
-ruling_cert s (Looked n i a) t st g c e = let z : ◌≡◌ {A = ℕ} 0 1 = cc in absurd (omega arith)
+ruling_cert s (Ruled n i ls (Err q) out) t st g c e = cc
+ruling_cert s (Looked n i a) t st g c e = cc
 ruling_cert s (Ruled n i ls (Ok a) out) t st g c e =
     let k : claim n i a.ruling ≡ c = cc in
     let r = ruled s.table s.rows g.formed g.rising n i a ls (sym st.answers.0) in
@@ -90,13 +70,13 @@ run_rows (then {es = es} st r) = run_rows r ∙ ap (λ R. rows_held R es) st.row
 -- later rows stand after the earlier ones
 more_one : (R : List Row) (e : Event) → (more : List Row) × (rows_after R e ≡ R ++ more)
 more_one R (Added x (Ok u)) = (x ∷ [], refl)
-more_one R (Added x (Err q)) = ([], sym (append_none R))
-more_one R (Presented cert stack a) = ([], sym (append_none R))
-more_one R (Ruled n i ls a out) = ([], sym (append_none R))
-more_one R (Looked n i a) = ([], sym (append_none R))
+more_one R (Added x (Err q)) = ([], sym (append-nil R))
+more_one R (Presented cert stack a) = ([], sym (append-nil R))
+more_one R (Ruled n i ls a out) = ([], sym (append-nil R))
+more_one R (Looked n i a) = ([], sym (append-nil R))
 
 more_rows : (R : List Row) (es : List Event) → (more : List Row) × (rows_held R es ≡ R ++ more)
-more_rows R [] = ([], sym (append_none R))
+more_rows R [] = ([], sym (append-nil R))
 more_rows R (e ∷ es) =
     let a = more_one R e in let b = more_rows (rows_after R e) es in
     (a.0 ++ b.0, b.1 ∙ ap (λ X. X ++ b.0) a.1 ∙ append_assoc R a.0 b.0)
@@ -136,8 +116,8 @@ pub record At (o : State) (before : List Event) (e : Event) : Type 0 where
   pub rows_are : here.rows ≡ rows_held o.rows before
 
 split : (before : List Event) (e : Event) (after es : List Event) {o t : State} → before ++ (e ∷ after) ≡ es → Run o es t → (s : State) × (u : State) × Run o before s × Step s e u
-split [] e after [] h r = let z : ◌≡◌ {A = ℕ} 0 1 = cc in absurd (omega arith)
-split (b ∷ before) e after [] h r = let z : ◌≡◌ {A = ℕ} 0 1 = cc in absurd (omega arith)
+split [] e after [] h r = cc
+split (b ∷ before) e after [] h r = cc
 split [] e after (d ∷ es) {o = o} h (then {t = t} st r) = let k : d ≡ e = cc in (o, t, done, subst (λ x. Step o x t) k st)
 split (b ∷ before) e after (d ∷ es) {o = o} h (then {t = t} st r) =
     let k : d ≡ b = cc in let l : before ++ (e ∷ after) ≡ es = cc in

@@ -1,5 +1,5 @@
 -- The law of the case.
-use Rattle.std.proofs.Common.{◌≡◌, ℕ, List, Some, None, Ok, Option, sym, refl, subst, arith}
+use Rattle.std.proofs.Common.{◌≡◌, ℕ, List, Some, None, Ok, Option, sym, refl, subst}
 use Rattle.mtl.specs.declared.row.Row.{Row}
 use Rattle.mtl.specs.declared.ruling.Ruling.{Ruling}
 use Rattle.mtl.specs.declared.ruling.Ruling.TheVariants.{Held as held, Broken as broken}
@@ -10,7 +10,7 @@ use Rattle.mtl.specs.Continuations.{TrueIn, Always}
 use Rattle.mtl.specs.Laws.{SettleSays}
 use Rattle.mtl.proofs.Consistent.{onward, onward_continues}
 use Rattle.mtl.proofs.Settles.{settle_says}
-use Rattle.cases.specs.Runs.{State, Event, Entry, Ruled, Looked, show_questions}
+use Rattle.cases.specs.Runs.{State, Event, Ruled, Looked, show_questions}
 use Rattle.cases.specs.Law.{Opened, Law, LastRuled, Gave, rows_held}
 use Rattle.cases.proofs.Kept.{Good, At, happened, ruling_true, gave_true, run_good}
 use Rattle.cases.proofs.Shown.{run_shows}
@@ -21,9 +21,9 @@ one_true T ρ n i held broken a b = absurd (b a)
 one_true T ρ n i broken held a b = absurd (a b)
 one_true T ρ n i broken broken a b = refl
 
-shown_is : (q : Option ℕ) (x y : Entry) → Ok x ≡ answer q y → y ≡ x
+shown_is : (q : Option ℕ) (x y : Option Ruling) → Ok x ≡ answer q y → y ≡ x
 shown_is None x y e = cc
-shown_is (Some q) x y e = let z : ◌≡◌ {A = ℕ} 0 1 = cc in absurd (omega arith)
+shown_is (Some q) x y e = cc
 
 -- from the state at an event to the table and the rows that the history tells
 told :

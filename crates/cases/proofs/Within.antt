@@ -1,5 +1,5 @@
 -- What is accepted lies within the book.
-use Rattle.std.proofs.Common.{◌≡◌, ℕ, ◌<◌, ◌≤◌, List, length, Ok, sym, arith, length-take}
+use Rattle.std.proofs.Common.{◌≡◌, ℕ, ◌<◌, ◌≤◌, List, length, Ok, sym, arith}
 use Rattle.mtl.specs.declared.row.Row.{Row}
 use Rattle.mtl.specs.declared.ruling.Claim.{Claim}
 use Rattle.mtl.specs.declared.table.Table.{Table}
@@ -11,25 +11,22 @@ use Rattle.mtl.specs.Checking.{accepted, check_answer}
 use Rattle.mtl.proofs.Exact.{accepted_certificate}
 use Rattle.mtl.proofs.Settles.{cert_within, ruled}
 
-lines_few : (t : Table) → length (lines_of t) ≤ 32
-lines_few t = let e = length-take t.count t.lines in let f = t.room.0 in omega arith
-
 pub claim_within :
-    (t : Table) (R : List Row) (cert : List ℕ) (k : ℕ) (c : Claim) → length R ≤ 128 → accepted c ≡ check_answer (lines_of t) R cert k →
+    (t : Table) (R : List Row) (cert : List ℕ) (k most : ℕ) (c : Claim) → length R ≤ most → most ≤ 128 → accepted c ≡ check_answer (lines_of t) R cert k →
     (c.line < 32) × (c.row < 128)
-claim_within t R cert k c r e =
+claim_within t R cert k most c r m e =
     let h = cert_within (accepted_certificate (lines_of t) R c cert k (sym e)).2 in
-    let f = lines_few t in
+    let f = t.few in
     let a = h.0 in
     let b = h.1 in
     (omega arith, omega arith)
 
 pub settled_within :
-    (t : Table) (R : List Row) (n i : ℕ) (ls : Lengths) (s : Settled) → NeverFalls R → length R ≤ 128 → Ok s ≡ settle_answer (lines_of t) R n i ls →
-    (n < 32) × (i < 128)
-settled_within t R n i ls s up r e =
+    (t : Table) (R : List Row) (n i : ℕ) (ls : Lengths) (most : ℕ) (s : Settled) → NeverFalls R → length R ≤ most → most ≤ 128 →
+    Ok s ≡ settle_answer (lines_of t) R n i ls → (n < 32) × (i < 128)
+settled_within t R n i ls most s up r m e =
     let h = cert_within (ruled (lines_of t) R t.formed up n i s ls (sym e)).cert in
-    let f = lines_few t in
+    let f = t.few in
     let a = h.0 in
     let b = h.1 in
     (omega arith, omega arith)

@@ -1,11 +1,8 @@
 -- A case as its calls see it: its state, what happens to it, and runs of such events.
-pub use Rattle.cases.specs.declared.entry.Entry.{Entry}
-pub use Rattle.cases.specs.declared.entry.Entry.TheVariants.{Open, Held as HeldEntry, Broken as BrokenEntry}
 use Rattle.std.specs.Prelude.{◌≡◌, ℕ, Bool, cond, ◌&&◌, List, [], ◌∷◌, length, Some, None, Ok, Err, Option, Result, ◌==◌, nat_lt}
 use Rattle.mtl.specs.declared.row.Row.{Row}
 use Rattle.mtl.specs.declared.ruling.Claim.{Claim}
 use Rattle.mtl.specs.declared.ruling.Ruling.{Ruling}
-use Rattle.mtl.specs.declared.ruling.Ruling.TheVariants.{Held as held, Broken as broken}
 use Rattle.mtl.specs.declared.ruling.Settled.{Settled}
 use Rattle.mtl.specs.Questions.{Question, first_no, answer}
 use Rattle.mtl.specs.Lines.{Rules}
@@ -14,14 +11,14 @@ use Rattle.mtl.specs.Checking.{Verdict, accepted, refused, check_answer}
 use Rattle.mtl.specs.Settling.{Lengths, settle_answer, settle_writes}
 use Rattle.logs.specs.Answers.{add_answer, grown}
 
--- the table's lines, the log's room rule and rows, and what the book shows for each line and row
+-- the table's lines, the log's room rule and rows, and what the book shows for each line and row: a ruling, or none where the line is open
 pub record State : Type 0 where
   pub table : Rules
   pub room : List Row → Row → Bool
   pub rows : List Row
-  pub book : ℕ → ℕ → Entry
+  pub book : ℕ → ℕ → Option Ruling
 
-abbrev pub state : Rules → (List Row → Row → Bool) → List Row → (ℕ → ℕ → Entry) → State
+abbrev pub state : Rules → (List Row → Row → Bool) → List Row → (ℕ → ℕ → Option Ruling) → State
 state T m R b = record { table = T; room = m; rows = R; book = b }
 
 -- a call with what it was handed, what it answered and what it wrote; refused calls are events too
@@ -29,7 +26,7 @@ pub data Event : Type 0 where
   Added : Row → Result (Unit {0}) ℕ → Event
   Presented : List ℕ → ℕ → Verdict → Event
   Ruled : ℕ → ℕ → Lengths → Result Settled ℕ → List ℕ → Event
-  Looked : ℕ → ℕ → Result Entry ℕ → Event
+  Looked : ℕ → ℕ → Result (Option Ruling) ℕ → Event
 
 -- the ruling that a call gives: an accepted Present's claim, an accepted Settle's line, row and ruling
 abbrev pub rules : Event → Option Claim
@@ -40,11 +37,11 @@ rules (Ruled n i ls (Ok s) out) = Some (claim n i s.ruling)
 rules (Ruled n i ls (Err q) out) = None
 rules (Looked n i a) = None
 
--- Show's answer; e is the entry
+-- Show's answer; e is what the book shows
 abbrev pub show_questions : Rules → List Row → ℕ → ℕ → List Question
 show_questions T R n i = (21, nat_lt n (length T)) ∷ (22, nat_lt i (length R)) ∷ []
 
-abbrev pub show_answer : Rules → List Row → ℕ → ℕ → Entry → Result Entry ℕ
+abbrev pub show_answer : Rules → List Row → ℕ → ℕ → Option Ruling → Result (Option Ruling) ℕ
 show_answer T R n i e = answer (first_no (show_questions T R n i)) e
 
 -- the answer is the one defined for the table and the rows held
@@ -61,14 +58,10 @@ rows_after R (Presented cert stack a) = R
 rows_after R (Ruled n i ls a out) = R
 rows_after R (Looked n i a) = R
 
-abbrev pub entry_of : Ruling → Entry
-entry_of held = HeldEntry
-entry_of broken = BrokenEntry
-
 -- a ruling sets its own entry and no other
-abbrev pub entered : Option Claim → (ℕ → ℕ → Entry) → ℕ → ℕ → Entry
+abbrev pub entered : Option Claim → (ℕ → ℕ → Option Ruling) → ℕ → ℕ → Option Ruling
 entered None book n i = book n i
-entered (Some c) book n i = cond (c.line == n && c.row == i) (entry_of c.ruling) (book n i)
+entered (Some c) book n i = cond (c.line == n && c.row == i) (Some c.ruling) (book n i)
 
 -- one call
 pub record Step (s : State) (e : Event) (t : State) : Type 0 where

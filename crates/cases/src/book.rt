@@ -1,12 +1,12 @@
 // The book of a case: an entry for each line and row.
 mod entering;
 
-use crate::entry::Entry;
+use mtl::ruling::Ruling;
 
-// What is kept of one line: its entry at each row.
+// What is kept of one line: the last ruling at each row, or none while the line is open there.
 #[derive(Clone, Copy)]
 pub struct LineRecord {
-    entries: [Entry; 128],
+    entries: [Option<Ruling>; 128],
 }
 
 #[derive(Drop)]

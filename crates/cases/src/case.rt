@@ -15,7 +15,7 @@ pub struct Case<L: Growing> {
 }
 
 // Why Show refuses.
-#[derive(Clone, Copy, Debug, PartialEq)]
+#[derive(Clone, Copy, Debug, PartialEq, Eq)]
 pub enum ShowFault {
     // The table has no such line.
     NoSuchLine,

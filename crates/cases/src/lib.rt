@@ -3,4 +3,3 @@
 
 mod book;
 pub mod case;
-pub mod entry;

@@ -1,7 +1,8 @@
 -- The rules end before the first empty line, and before no other.
-use Rattle.std.proofs.Common.{◌≡◌, ℕ, zero, suc, ◌+◌, ◌<◌, ◌≤◌, Bool, true, false, cond, ◌&&◌, eqb, List, [], ◌∷◌, length, refl, ap, ◌∙◌, one-add, arith}
+use Rattle.std.proofs.Common.{Some, None, Option, MatchOption, unwrap_or, le_refl, ◌≡◌, ℕ, zero, suc, ◌+◌, ◌<◌, ◌≤◌, Bool, true, false, cond, ◌&&◌, eqb, List, [], ◌∷◌, length, refl, ap, ◌∙◌, one-add, ⊎_elim, arith}
+use Rattle.std.proofs.lemmas.Bool.{both_ways, cases_order}
 use Rattle.listing.specs.Inputs.{rules_length}
-use Rattle.listing.specs.Laws.{empty_line_at, CutAtFirst}
+use Rattle.listing.specs.Laws.{empty_line_at, CutAtFirst, FirstEmptyLine}
 
 -- one byte further on
 later : (fresh : Bool) (b : ℕ) (bs : List ℕ) (k : ℕ) → empty_line_at fresh (b ∷ bs) (suc k) ≡ empty_line_at (eqb b 10) bs k
@@ -35,3 +36,23 @@ none_before fresh (b ∷ bs) k less = none_more fresh b bs (fresh && eqb b 10) (
 
 pub cut_at_first : CutAtFirst
 cut_at_first input = record { within = within true input; there = there true input; none_before = none_before true input }
+
+-- the end of the first empty line is one place
+apart : (text : List ℕ) (m n : ℕ) → FirstEmptyLine text m → FirstEmptyLine text n → m < n → ⊥
+apart text m n f g less =
+    let e = f.there (omega (arith, g.within)) in
+    let d = g.none_before m less in
+    both_ways _ d e
+
+same_end : (text : List ℕ) (m n : ℕ) → FirstEmptyLine text m → FirstEmptyLine text n → m ≡ n
+same_end text m n f g = ⊎_elim (λ e. e) (⊎_elim (λ h. absurd (apart text m n f g h)) (λ h. absurd (apart text n m g f h))) (cases_order m n)
+
+-- a search over the places finds it
+pub found : (text : List ℕ) (r : Option ℕ) →
+    MatchOption r ((k : ℕ) → 0 ≤ k → k < length text → empty_line_at true text k ≡ false)
+    (λ i. (0 ≤ i) × (i < length text) × (empty_line_at true text i ≡ true) × ((k : ℕ) → 0 ≤ k → k < i → empty_line_at true text k ≡ false)) →
+    unwrap_or r (length text) ≡ rules_length true text
+found text None h =
+    same_end text _ _ (record { within = le_refl _; there = λ more. absurd (omega arith); none_before = λ k less. h k (omega arith) less }) (cut_at_first text)
+found text (Some i) h =
+    same_end text _ _ (record { within = omega (arith, h.1); there = λ more. h.2; none_before = λ k less. h.3 k (omega arith) less }) (cut_at_first text)

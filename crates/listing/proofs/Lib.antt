@@ -1,3 +1,2 @@
-pub mod Untrue
 pub mod Cutting
 pub mod Ruled

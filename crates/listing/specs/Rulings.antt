@@ -1,15 +1,10 @@
 -- How the rulings of a table's last line are printed, row by row.
 use Rattle.std.specs.Prelude.{ℕ, zero, suc, ◌-◌, cond, List, [], ◌++◌, length, Ok, Err, codes, decimal, Result, ◌==◌}
 use Rattle.mtl.specs.declared.row.Row.{Row}
-use Rattle.mtl.specs.declared.ruling.Ruling.{Ruling}
-use Rattle.mtl.specs.declared.ruling.Ruling.TheVariants.{Held, Broken}
 use Rattle.mtl.specs.declared.ruling.Settled.{Settled}
+use Rattle.mtl.specs.Claims.{ruling_word}
 use Rattle.mtl.specs.Lines.{Rules}
 use Rattle.mtl.specs.Settling.{Lengths, lengths, settle_answer}
-
-abbrev pub ruling_word : Ruling → List ℕ
-ruling_word Held = codes "held"
-ruling_word Broken = codes "broken"
 
 -- refusal 24 is open; the other refusal that a row of the log can get is 25, long
 abbrev pub answer_word : Result Settled ℕ → List ℕ

@@ -12,7 +12,8 @@ use logs::traits::Readable;
 use mtl::table::Table;
 use std::alloc::{AllocError, Global};
 
-// The names line, and a line for each row of the case's log.
+// The names line, and a line for each row of the case's log. The buffers are handed on as Settle takes them: each has a length
+// of its own that a question asks about, and no fact joins them, so a struct would only rename them.
 fn settled_lines(
     heap: Global,
     case: &mut Case<MaskLog>,
@@ -26,8 +27,7 @@ fn settled_lines(
     let mut text = String::from_str(heap, "row ruling nodes\n")?;
     for row in 0..case.log().len() {
         let answer = case.settle(line, row, sizes, plan, out);
-        let shown = format!(in heap; "{}", RowLine { row, answer })?;
-        text.push_str(&shown)?;
+        write!(text, "{}", RowLine { row, answer })?;
     }
     Ok(text)
 }
@@ -36,13 +36,13 @@ fn settled_lines(
 pub fn ruling_lines(heap: Global, table: Table, log: MaskLog) -> Result<String, AllocError>
     ensures { IfOk result (λ s. string_bytes s ≡ ruling_lines (lines_of table) (MaskRows.rows log)) }
 {
-    let lines = table.len();
-    if lines == 0 {
+    let Some(last) = table.len().checked_sub(1) else {
         return String::from_str(heap, "row ruling nodes\n");
-    }
+    };
+    // `replays` makes such buffers too, and says why each makes its own.
     let mut sizes = vec![in heap; 0; 8192]?;
     let mut plan = vec![in heap; 0; 8192]?;
     let mut out = vec![in heap; 0; 24576]?;
     let mut case = Case::open(table, log);
-    settled_lines(heap, &mut case, lines - 1, &mut sizes, &mut plan, &mut out)
+    settled_lines(heap, &mut case, last, &mut sizes, &mut plan, &mut out)
 }

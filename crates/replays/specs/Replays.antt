@@ -1,7 +1,8 @@
 -- Calls and answers of the code as events of a run.
-use Rattle.std.specs.Prelude.{◌≡◌, ℕ, Bool, List, [], ◌∷◌, Result}
+use Rattle.std.specs.Prelude.{◌≡◌, ℕ, Bool, List, [], ◌∷◌, Option, Result}
 use Rattle.mtl.specs.declared.row.Row.{Row}
 use Rattle.mtl.specs.declared.ruling.Claim.{Claim}
+use Rattle.mtl.specs.declared.ruling.Ruling.{Ruling}
 use Rattle.mtl.specs.declared.ruling.Settled.{Settled}
 use Rattle.mtl.specs.Lines.{Rules}
 use Rattle.mtl.specs.Settling.{Lengths}
@@ -12,7 +13,6 @@ use Rattle.checker.specs.Told.{told as check_told}
 use Rattle.writer.specs.declared.fault.SettleFault.{SettleFault}
 use Rattle.writer.specs.Told.{told as settle_told}
 use Rattle.cases.specs.declared.case.ShowFault.{ShowFault}
-use Rattle.cases.specs.declared.entry.Entry.{Entry}
 use Rattle.replays.specs.declared.call.Call.{Call}
 use Rattle.replays.specs.declared.call.Call.TheVariants.{Add, Present, Settle, Show}
 use Rattle.replays.specs.declared.call.Answer.{Answer}
@@ -28,7 +28,7 @@ pub data Records : Call → Answer → Event → Type 0 where
       (cert : _) (stack : ℕ) (a : Result Claim CheckFault) → Records (Present cert) (presented a) (Presented cert.now stack (check_told a))
   of_settle :
       (n i : ℕ) (ls : Lengths) (out : List ℕ) (a : Result Settled SettleFault) → Records (Settle n i) (settled a) (Ruled n i ls (settle_told a) out)
-  of_show : (n i : ℕ) (a : Result Entry ShowFault) → Records (Show n i) (shown a) (Looked n i (show_told a))
+  of_show : (n i : ℕ) (a : Result (Option Ruling) ShowFault) → Records (Show n i) (shown a) (Looked n i (show_told a))
 
 -- call by call and answer by answer
 pub data RecordsAll : List Call → List Answer → List Event → Type 0 where

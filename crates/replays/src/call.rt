@@ -1,10 +1,9 @@
 // Calls on a case as values, and their answers.
 use cases::case::ShowFault;
-use cases::entry::Entry;
 use checker::fault::CheckFault;
 use logs::fault::AddFault;
 use mtl::row::Row;
-use mtl::ruling::{Claim, Settled};
+use mtl::ruling::{Claim, Ruling, Settled};
 use writer::fault::SettleFault;
 
 // A call, with what it is handed beside the buffers.
@@ -22,5 +21,5 @@ pub enum Answer {
     Added(Result<(), AddFault>),
     Presented(Result<Claim, CheckFault>),
     Settled(Result<Settled, SettleFault>),
-    Shown(Result<Entry, ShowFault>),
+    Shown(Result<Option<Ruling>, ShowFault>),
 }

@@ -7,7 +7,7 @@ ghost use Rattle.cases.specs.View.{state_of};
 use crate::call::{Answer, Call};
 use cases::case::Case;
 use logs::traits::{Growing, Readable};
-use mtl::ruling::{Claim, Ruling};
+use mtl::ruling::Claim;
 use mtl::table::Table;
 use std::alloc::{AllocError, Global};
 
@@ -18,7 +18,8 @@ pub struct Outcome<L: Growing> {
     pub answers: Vec<Answer>,
 }
 
-// The buffers that calls are lent, as long as any call asks for.
+// The buffers that calls are lent, as long as any call asks for. `listing` makes the last three likewise: for one struct it would
+// stand on this crate for three lines, and make a stack that it never uses.
 #[derive(Drop)]
 struct Buffers {
     stack: Vec<Claim>,
@@ -32,20 +33,11 @@ struct Buffers {
 
 impl Buffers {
     fn new(heap: Global) -> Result<Buffers, AllocError> {
-        let blank = Claim {
-            line: 0,
-            row: 0,
-            ruling: Ruling::Held,
-        };
-        let stack = vec![in heap; blank; 4096]?;
-        let sizes = vec![in heap; 0u16; 8192]?;
-        let plan = vec![in heap; 0u16; 8192]?;
-        let out = vec![in heap; 0u8; 24576]?;
         Ok(Buffers {
-            stack,
-            sizes,
-            plan,
-            out,
+            stack: vec![in heap; Claim::BLANK; 4096]?,
+            sizes: vec![in heap; 0; 8192]?,
+            plan: vec![in heap; 0; 8192]?,
+            out: vec![in heap; 0; 24576]?,
         })
     }
 }
@@ -83,8 +75,7 @@ pub fn replay<L: Growing + Drop>(
     let mut case = Case::open(table, log);
     let mut answers = Vec::new(heap);
     for call in calls {
-        let answer = make(&mut case, call, &mut lent);
-        answers.push(answer)?;
+        answers.push(make(&mut case, call, &mut lent))?;
     }
     Ok(Outcome { case, answers })
 }

@@ -12,13 +12,12 @@ ghost use Rattle.cases.specs.View.{state_of, Does, show_told};
 
 use crate::book::Book;
 use crate::case::{Case, ShowFault};
-use crate::entry::Entry;
 use checker::check::check;
 use checker::fault::CheckFault;
 use logs::fault::AddFault;
 use logs::traits::{Growing, Readable};
 use mtl::row::Row;
-use mtl::ruling::{Claim, Settled};
+use mtl::ruling::{Claim, Ruling, Settled};
 use mtl::table::Table;
 use writer::fault::SettleFault;
 use writer::settle::settle;
@@ -71,6 +70,8 @@ impl<L: Growing> Case<L> {
     }
 
     // Settles a line at a row: Settle, on the case's table and rows; an accepted ruling is entered.
+    // The buffers stay three slices: each has a length of its own that a question asks about, and no fact joins them, so a
+    // struct would only rename them.
     pub fn settle(
         &mut self,
         line: usize,
@@ -87,8 +88,8 @@ impl<L: Growing> Case<L> {
         Ok(settled)
     }
 
-    // What the book shows for a line at a row.
-    pub fn show(&self, line: usize, row: usize) -> Result<Entry, ShowFault>
+    // What the book shows for a line at a row: the last ruling, or none while the line is open there.
+    pub fn show(&self, line: usize, row: usize) -> Result<Option<Ruling>, ShowFault>
         ensures { Does L.Growing.room L.Readable.rows self.now (Looked line row (show_told result)) self.now }
     {
         if line >= self.table.len() {

@@ -4,7 +4,7 @@ ghost use Rattle.writer.specs.Told.{told};
 ghost use Rattle.listing.specs.Rulings.{row_line};
 
 use crate::row_line::RowLine;
-use mtl::ruling::Ruling;
+use mtl::ruling::Settled;
 use std::fmt;
 use writer::fault::SettleFault;
 
@@ -14,13 +14,7 @@ impl fmt::Display for RowLine {
     fn fmt<W: fmt::Write>(&self, f: &mut fmt::Formatter<W>) -> fmt::Result {
         let row = self.row;
         match self.answer {
-            Ok(settled) => {
-                let nodes = settled.size;
-                match settled.ruling {
-                    Ruling::Held => write!(f, "{row} held {nodes}\n"),
-                    Ruling::Broken => write!(f, "{row} broken {nodes}\n"),
-                }
-            }
+            Ok(Settled { ruling, size }) => write!(f, "{row} {ruling} {size}\n"),
             Err(SettleFault::Open) => write!(f, "{row} open -\n"),
             Err(_) => write!(f, "{row} long -\n"),
         }

@@ -7,13 +7,13 @@ use Rattle.mtl.specs.declared.ruling.Settled.{Settled}
 use Rattle.bench_calls.proofs.Refilled.{refilled}
 use Rattle.bench_calls.proofs.repeats.settle_again.Goals as goal
 
-pub loop-round-preserved : goal.loop-round-preserved
-loop-round-preserved c =
+pub loop-preserved : goal.loop-preserved
+loop-preserved c =
     let T = lines_of c.args.table.now in
     let R = MaskRows.rows c.args.log.now in
     let n = c.args.line in
     let i = c.args.row in
-    let l = c.loop-round in
+    let l = c.loop in
     let last = c.settle.new in
     let a = settle_answer T R n i (lengths (length c.args.sizes.now) (length c.args.plan.now) (length c.args.out.now)) in
     let told = c.settle.ensures.answer ∙ (λ k. settle_answer T R n i (lengths (l.auto.sizes k) (l.auto.plan k) (l.auto.out k))) in
@@ -26,7 +26,7 @@ returns c =
     let R = MaskRows.rows c.args.log.now in
     let n = c.args.line in
     let i = c.args.row in
-    let l = c.loop-round in
+    let l = c.loop in
     let last = c.settle-2.new in
     let told = c.settle-2.ensures.answer ∙ (λ k. settle_answer T R n i (lengths (l.auto.sizes k) (l.auto.plan k) (l.auto.out k))) in
     let fills = subst (λ (x : Result Settled ℕ). Fills T R n i x l.sizes last.sizes l.plan last.plan l.out last.out) told c.settle-2.ensures.buffers in

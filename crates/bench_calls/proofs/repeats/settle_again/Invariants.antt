@@ -6,8 +6,8 @@ use Rattle.mtl.specs.Tables.{lines_of}
 use Rattle.bench_calls.proofs.repeats.settle_again.Given as goal
 
 -- what one more call leaves, it would have left at first
-abbrev pub invariant-loop-round : goal.invariant-loop-round
-invariant-loop-round l =
+abbrev pub invariant-loop : goal.invariant-loop
+invariant-loop l =
     let T = lines_of l.table in
     let R = MaskRows.rows l.log in
     let a = settle_answer T R l.line l.row (lengths (length l.initial.sizes) (length l.initial.plan) (length l.initial.out)) in

@@ -1,12 +1,12 @@
-use Rattle.mtl.specs.Checking.{refused}
-use Rattle.mtl.specs.Laws.{CheckSays}
-use Rattle.checker.specs.Told.{fault_told}
-use Rattle.c_api.proofs.Found.{check_counts, read_as}
+use Rattle.std.proofs.Common.{◌≡◌, sym, subst, rules}
+use Rattle.checker.specs.Told.{told}
+use Rattle.c_api.specs.Meanings.{CheckFound}
+use Rattle.c_api.specs.Readings.{telling, by_verdict}
+use Rattle.c_api.proofs.Found.{check_found}
 use Rattle.c_api.proofs.judging.checked.Goals as goal
 
-pub returns-in-Err-clause-says : goal.returns-in-Err-clause-says
-returns-in-Err-clause-says c =
-    let f = c.in-Err.fault in (
-      check_counts f,
-      read_as c.args.rules.now c.args.log.now _ _ c.in_ok-table.ensures c.in_ok-log.ensures (λ T R. CheckSays T R c.args.certificate.now 4096 (refused (fault_told f).0 (fault_told f).1)) c.in-Err.ensures.says,
-    )
+pub returns-clause-says : goal.returns-clause-says
+returns-clause-says c =
+    let is : telling c.map_err.result ≡ by_verdict (told c.check.result) = search rules in
+    subst (CheckFound c.args.rules.now c.args.log.now c.args.certificate.now) (sym is)
+    (check_found _ _ _ _ _ c.check.result c.in_ok-table.ensures c.in_ok-log.ensures c.check.ensures.says)

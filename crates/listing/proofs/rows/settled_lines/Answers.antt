@@ -20,10 +20,8 @@ loop-row-preserved c =
     let R = MaskRows.rows c.args.case.now.log in
     let ls = lengths (length c.args.sizes.now) (length c.args.plan.now) (length c.args.out.now) in
     let step = c.settle-answer.ensures.step in
-    let answer = step.answers.0 ∙ (λ i. settle_answer (inv.1 i) (inv.2 i) line row (lengths (inv.3 i) (inv.4 i) (inv.5 i))) in
-    let shown = c.deref.ensures ∙ c.in_ok-shown.ensures.ok ∙ ap (row_line row) answer in
-    let grown = c.in_ok-push_str.ensures.bytes in (
-      grown ∙ (λ i. inv.0 i ++ shown i) ∙ one_more (λ i. settle_answer T R line i ls) row,
+    let answer = step.answers.0 ∙ (λ i. settle_answer (inv.1 i) (inv.2 i) line row (lengths (inv.3 i) (inv.4 i) (inv.5 i))) in (
+      c.in_ok-write.ensures.bytes ∙ (λ i. inv.0 i ++ row_line row (answer i)) ∙ one_more (λ i. settle_answer T R line i ls) row,
       step.same_table ∙ inv.1,
       step.rows ∙ inv.2,
       search rules,

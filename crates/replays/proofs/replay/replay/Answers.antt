@@ -21,10 +21,10 @@ pub loop-call-preserved : goal.loop-call-preserved
 loop-call-preserved g c =
     let o = state_of g.L.Growing.room g.L.Readable.rows c.open-case.result in
     let s = state_of g.L.Growing.room g.L.Readable.rows c.loop-call.case in
-    let t = state_of g.L.Growing.room g.L.Readable.rows c.make-answer.new.case in
+    let t = state_of g.L.Growing.room g.L.Readable.rows c.make.new.case in
     let cs = c.args.calls.now in
     let k = c.loop-call.call-index in
-    let more = makes_more o s t (take k cs) (vec_items c.loop-call.answers) (get_or cs k no_call) c.make-answer.result c.loop-call.invariant c.make-answer.ensures in
+    let more = makes_more o s t (take k cs) (vec_items c.loop-call.answers) (get_or cs k no_call) c.make.result c.loop-call.invariant c.make.ensures in
     subst (λ xs. MakesAll o xs (vec_items c.push.new.self) t) (sym (take_more cs k no_call c.loop-call-test.true))
     (subst (λ xs. MakesAll o (take k cs ++ get_or cs k no_call ∷ []) xs t) (sym c.in_ok-push.ensures.items) more)
 

@@ -1,5 +1,4 @@
-use Rattle.std.proofs.Common.{◌≡◌, ◌<◌, length, arith, rules}
-use Rattle.cases.specs.Runs.{entry_of}
+use Rattle.std.proofs.Common.{◌≡◌, ◌<◌, Some, length, arith, rules}
 use Rattle.cases.proofs.Blank.{line_entered}
 use Rattle.cases.proofs.book.Book.enter.Goals as goal
 
@@ -7,4 +6,4 @@ pub returns : goal.returns
 returns c =
     let h : length c.args.self.now.records ≡ 32 = search rules in
     let l : c.args.line < length c.args.self.now.records = omega arith in
-    line_entered c.args.self.now.records c.args.line c.args.row (entry_of c.args.ruling) c.rule.new.self l c.rule.ensures
+    line_entered c.args.self.now.records c.args.line c.args.row (Some c.args.ruling) c.enter.new.self l c.enter.ensures
