@@ -12,35 +12,23 @@ const LOG: &[u8] = b"time clamp heel\n0 1 0\n2 1 1\n4 1 0\n4 0 0\n9 1 0\n";
 // Line 2 broken at row 3.
 const CERTIFICATE: [u8; 18] = [0, 2, 0, 3, 0, 0, 1, 2, 0, 3, 0, 0, 2, 21, 0, 3, 0, 2];
 
-const NOTHING: Refused = Refused {
-    number: 0,
-    text: 0,
-    layer: 0,
-    line: 0,
-    field: 0,
-    node: 0,
-};
-
 fn refused_check(refusal: Refused) -> CheckAnswer {
     CheckAnswer {
         refusal,
-        line: 0,
-        row: 0,
-        ruling: 0,
+        ..CheckAnswer::default()
     }
 }
 
 fn refused_settle(refusal: Refused) -> SettleAnswer {
     SettleAnswer {
         refusal,
-        ruling: 0,
-        size: 0,
+        ..SettleAnswer::default()
     }
 }
 
 #[test]
 fn texts_are_read(rt: HostRuntime) {
-    let refusal = NOTHING;
+    let refusal = Refused::default();
     assert_eq!(rt;
         sanqizhet_read_rules_nonnull(RULES),
         ReadAnswer { refusal, count: 3 }
@@ -61,7 +49,7 @@ fn faulty_texts_are_refused(rt: HostRuntime) {
         layer: 1,
         line: 3,
         field: 5,
-        node: 0,
+        ..Refused::default()
     };
     assert_eq!(rt;
         sanqizhet_read_rules_nonnull(rules),
@@ -76,8 +64,7 @@ fn faulty_texts_are_refused(rt: HostRuntime) {
         text: 2,
         layer: 3,
         line: 4,
-        field: 0,
-        node: 0,
+        ..Refused::default()
     };
     assert_eq!(rt;
         sanqizhet_read_log_nonnull(log),
@@ -104,7 +91,7 @@ fn faulty_texts_are_refused(rt: HostRuntime) {
 fn settled_is_checked(rt: HostRuntime) {
     let mut out = [9; 20];
     let settled = SettleAnswer {
-        refusal: NOTHING,
+        refusal: Refused::default(),
         ruling: 2,
         size: 3,
     };
@@ -115,7 +102,7 @@ fn settled_is_checked(rt: HostRuntime) {
     assert!(rt; &out[..18] == &CERTIFICATE[..]);
     assert!(rt; &out[18..] == &[9, 9][..]);
     let claim = CheckAnswer {
-        refusal: NOTHING,
+        refusal: Refused::default(),
         line: 2,
         row: 3,
         ruling: 2,
@@ -131,7 +118,7 @@ fn damaged_is_refused(rt: HostRuntime) {
     let rule = Refused {
         number: 15,
         node: 2,
-        ..NOTHING
+        ..Refused::default()
     };
     assert_eq!(rt;
         sanqizhet_check_nonnull(RULES, LOG, &damaged),
@@ -139,7 +126,7 @@ fn damaged_is_refused(rt: HostRuntime) {
     );
     let none = Refused {
         number: 11,
-        ..NOTHING
+        ..Refused::default()
     };
     assert_eq!(rt;
         sanqizhet_check_nonnull(RULES, LOG, &[]),
@@ -153,7 +140,7 @@ fn short_output_is_refused(rt: HostRuntime) {
     let mut out = [9; 17];
     let short = Refused {
         number: 26,
-        ..NOTHING
+        ..Refused::default()
     };
     assert_eq!(rt;
         sanqizhet_settle_nonnull(RULES, LOG, 2, 3, &mut out),

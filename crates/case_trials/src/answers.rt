@@ -1,32 +1,37 @@
 // What a call answered, as a line.
+use mtl::ruling::{Claim, Settled};
 use replays::call::Answer;
-use std::io;
+use std::{fmt, io};
 
-fn show_answer(rt: &HostRuntime, answer: &Answer) -> io::Result<()> {
-    match answer {
-        Answer::Added(Ok(())) => println!(rt; "  add: taken"),
-        Answer::Added(Err(fault)) => println!(rt; "  add: {fault:?}"),
-        Answer::Presented(Ok(claim)) => {
-            let line = claim.line;
-            let row = claim.row;
-            let ruling = claim.ruling;
-            println!(rt; "  present: line {line} row {row} {ruling:?}")
+#[derive(Clone, Copy)]
+struct Told {
+    answer: Answer,
+}
+
+impl fmt::Display for Told {
+    fn fmt<W: fmt::Write>(&self, f: &mut fmt::Formatter<W>) -> fmt::Result {
+        match self.answer {
+            Answer::Added(Ok(())) => write!(f, "add: taken"),
+            Answer::Added(Err(fault)) => write!(f, "add: {fault:?}"),
+            Answer::Presented(Ok(Claim { line, row, ruling })) => {
+                write!(f, "present: line {line} row {row} {ruling:?}")
+            }
+            Answer::Presented(Err(fault)) => write!(f, "present: {fault:?}"),
+            Answer::Settled(Ok(Settled { ruling, size })) => {
+                write!(f, "settle: {ruling:?} in {size}")
+            }
+            Answer::Settled(Err(fault)) => write!(f, "settle: {fault:?}"),
+            Answer::Shown(Ok(Some(ruling))) => write!(f, "show: {ruling:?}"),
+            Answer::Shown(Ok(None)) => write!(f, "show: Open"),
+            Answer::Shown(Err(fault)) => write!(f, "show: {fault:?}"),
         }
-        Answer::Presented(Err(fault)) => println!(rt; "  present: {fault:?}"),
-        Answer::Settled(Ok(settled)) => {
-            let ruling = settled.ruling;
-            let size = settled.size;
-            println!(rt; "  settle: {ruling:?} in {size}")
-        }
-        Answer::Settled(Err(fault)) => println!(rt; "  settle: {fault:?}"),
-        Answer::Shown(Ok(entry)) => println!(rt; "  show: {entry:?}"),
-        Answer::Shown(Err(fault)) => println!(rt; "  show: {fault:?}"),
     }
 }
 
-pub(crate) fn show_all(rt: &HostRuntime, answers: &[Answer]) -> io::Result<()> {
+pub(crate) fn show_all(rt: &impl Print, answers: &[Answer]) -> io::Result<()> {
     for answer in answers {
-        show_answer(rt, answer)?;
+        let told = Told { answer: *answer };
+        println!(rt; "  {told}")?;
     }
     Ok(())
 }

@@ -1,27 +1,6 @@
 // The calls that are tried. Mark 0 is the clamp, and mark 1 the heel.
-use mtl::draft::Draft;
-use mtl::line::Fields;
 use mtl::row::Row;
-use mtl::table::Table;
 use replays::call::Call;
-
-fn fields(from: u32, to: Option<u32>, left: u32, right: u32) -> Fields {
-    Fields {
-        from,
-        to,
-        left,
-        right,
-    }
-}
-
-// The clamp, the heel, and a since or an until over them with a window.
-pub(crate) fn table_of(letter: char, from: u32, to: Option<u32>) -> Table {
-    let mut draft = Draft::new();
-    let _ = draft.enter('m', fields(0, None, 0, 0));
-    let _ = draft.enter('m', fields(0, None, 1, 0));
-    let _ = draft.enter(letter, fields(from, to, 0, 1));
-    draft.close()
-}
 
 fn add<'a>(time: u32, marks: u32) -> Call<'a> {
     Call::Add(Row { time, marks })

@@ -14,10 +14,6 @@ mod tests {
 
     const RULES: &str = "line kind from to left right\n0 m - - 0 -\n\n";
 
-    fn joined(heap: Global, a: &str, b: &str, c: &str) -> Result<String, AllocError> {
-        format!(in heap; "{a}{b}{c}")
-    }
-
     // The input gives the listing.
     fn gives(rt: &impl Abort, heap: Global, input: &str, expected: &str) -> Result<(), Fail> {
         let text = listing(heap, input.as_bytes())?;
@@ -34,8 +30,8 @@ mod tests {
         trials: &[(&str, &str)],
     ) -> Result<(), Fail> {
         for (input, values) in trials {
-            let whole = joined(heap, before, input, after)?;
-            let expected = joined(heap, "fault text line field\n", values, "\n")?;
+            let whole = format!(in heap; "{before}{input}{after}")?;
+            let expected = format!(in heap; "fault text line field\n{values}\n")?;
             gives(rt, heap, &whole, &expected)?;
         }
         Ok(())
@@ -49,27 +45,16 @@ mod tests {
         log: &str,
         rows: &str,
     ) -> Result<(), Fail> {
-        let texts = joined(heap, lines, "\n", log)?;
-        let input = joined(heap, NAMES, &texts, "")?;
-        let expected = joined(heap, "row ruling nodes\n", rows, "")?;
+        let input = format!(in heap; "{NAMES}{lines}\n{log}")?;
+        let expected = format!(in heap; "row ruling nodes\n{rows}")?;
         gives(rt, heap, &input, &expected)
-    }
-
-    // A text after which a part stands so many times.
-    fn repeated(heap: Global, first: &str, part: &str, times: usize) -> Result<String, AllocError> {
-        let mut text = String::from_str(heap, first)?;
-        for _ in 0..times {
-            text.push_str(part)?;
-        }
-        Ok(text)
     }
 
     // Lines that begin with their numbers, from a first one on.
     fn numbered(heap: Global, from: usize, to: usize, rest: &str) -> Result<String, AllocError> {
         let mut text = String::new(heap);
         for number in from..to {
-            let line = format!(in heap; "{number}{rest}")?;
-            text.push_str(&line)?;
+            write!(text, "{number}{rest}")?;
         }
         Ok(text)
     }
@@ -79,8 +64,7 @@ mod tests {
         let mut text = String::from_str(heap, "0 m - - 0 -\n")?;
         for line in 1..lines {
             let before = line - 1;
-            let next = format!(in heap; "{line} a - - {before} {before}\n")?;
-            text.push_str(&next)?;
+            write!(text, "{line} a - - {before} {before}\n")?;
         }
         Ok(text)
     }
@@ -335,8 +319,8 @@ mod tests {
     #[test]
     fn lengths(rt: HostRuntime) -> Result<(), Fail> {
         let heap = rt.alloc();
-        let most = repeated(heap, "", "abc\n", 4096)?;
-        let more = repeated(heap, "x", "abc\n", 4096)?;
+        let most = "abc\n".repeat(heap, 4096)?;
+        let more = format!(in heap; "x{most}")?;
         faults(
             &rt,
             heap,
@@ -362,9 +346,9 @@ mod tests {
         let unknown = numbered(heap, 32, 33, " q - - 0 -\n")?;
         let held = numbered(heap, 0, 128, " held 1\n")?;
         let rows = numbered(heap, 0, 128, " 1\n")?;
-        let log = joined(heap, "time a\n", &rows, "")?;
+        let log = format!(in heap; "time a\n{rows}")?;
         rules(&rt, heap, &lines, &log, &held)?;
-        let full = joined(heap, NAMES, &lines, "")?;
+        let full = format!(in heap; "{NAMES}{lines}")?;
         faults(
             &rt,
             heap,
@@ -372,7 +356,7 @@ mod tests {
             LOG,
             &[(&line, "1 rules 34 0"), (&unknown, "1 rules 34 0")],
         )?;
-        let before = joined(heap, RULES, &log, "")?;
+        let before = format!(in heap; "{RULES}{log}")?;
         faults(
             &rt,
             heap,
@@ -389,9 +373,9 @@ mod tests {
         let log = "time a\n0 1\n1 0\n";
         let twelve = doubled(heap, 12)?;
         rules(&rt, heap, &twelve, log, "0 held 4095\n1 broken 12\n")?;
-        let most = joined(heap, &twelve, "12 n - - 11 -\n", "")?;
+        let most = format!(in heap; "{twelve}12 n - - 11 -\n")?;
         rules(&rt, heap, &most, log, "0 broken 4096\n1 held 13\n")?;
-        let more = joined(heap, &most, "13 n - - 12 -\n", "")?;
+        let more = format!(in heap; "{most}13 n - - 12 -\n")?;
         rules(&rt, heap, &more, log, "0 long -\n1 broken 14\n")?;
         let thirty_two = doubled(heap, 32)?;
         rules(&rt, heap, &thirty_two, log, "0 long -\n1 broken 32\n")

@@ -1,6 +1,7 @@
 // The rows of the trials.
 use mtl::row::{Row, Time};
 use std::alloc::{AllocError, Global};
+use std::array;
 
 fn row(time: Time, marks: u32) -> Row {
     Row { time, marks }
@@ -30,29 +31,23 @@ pub(crate) fn falling() -> [Row; 3] {
 
 // One row more than a log can hold, with two changes from row to row.
 pub(crate) fn many() -> [Row; 129] {
-    let mut rows = [row(0, 0); 129];
-    for i in 0..129u32 {
-        rows[i as usize] = row(3 * i, 1 << (i % 32));
-    }
-    rows
+    array::from_fn(|i| row(3 * i as Time, 1 << (i % 32)))
 }
 
 // Sixteen rows of 32 changes each, and one of a single change.
 pub(crate) fn busy() -> [Row; 17] {
-    let mut rows = [row(9, 1); 17];
-    for i in 0..8usize {
-        rows[2 * i] = row(9, 0xffffffff);
-        rows[2 * i + 1] = row(9, 0);
-    }
-    rows
+    array::from_fn(|i| match i {
+        16 => row(9, 1),
+        _ if i % 2 == 0 => row(9, 0xffffffff),
+        _ => row(9, 0),
+    })
 }
 
-// The bytes of a sheet with these rows.
+// The bytes of a sheet with these rows. `comparison` has this too: no crate below both has a heap.
 pub(crate) fn sheet_bytes(heap: Global, rows: &[Row]) -> Result<Vec<u8>, AllocError> {
     let mut bytes = Vec::new(heap);
     for row in rows {
-        bytes.extend_from_slice(&row.time.to_be_bytes())?;
-        bytes.extend_from_slice(&row.marks.to_be_bytes())?;
+        bytes.extend_from_slice(&<[u8; 8]>::from(*row))?;
     }
     Ok(bytes)
 }

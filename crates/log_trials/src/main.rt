@@ -3,35 +3,28 @@
 
 mod compare;
 mod inputs;
-mod numbers;
+mod told;
 
 use compare::Tally;
 use logs::any_log::{add_all, same_answers};
 use logs::changes::ChangeLog;
+use logs::fault::{AddFault, ReadFault, SheetFault};
 use logs::mask::MaskLog;
 use logs::sheet::Sheet;
 use logs::traits::{Growing, Readable};
 use mtl::row::Row;
 use std::alloc::Global;
 use std::io;
+use told::Told;
 
-// What a log says to the row after those that it took: the number of its refusal, or 0.
-fn told_next<L: Growing>(log: &mut L, rows: &[Row], taken: usize) -> u32 {
-    match rows.get(taken) {
-        Some(row) => match log.add(*row) {
-            Ok(()) => 0,
-            Err(fault) => numbers::add_number(fault),
-        },
-        None => 0,
-    }
+// Why a log refuses the row after those that it took, if there is one.
+fn refusal_of_next<L: Growing>(log: &mut L, rows: &[Row], taken: usize) -> Option<AddFault> {
+    log.add(*rows.get(taken)?).err()
 }
 
-// What a log says to a time past its last row.
-fn told_past<L: Readable>(log: &L) -> u32 {
-    match log.time(log.len()) {
-        Ok(_) => 0,
-        Err(fault) => numbers::read_number(fault),
-    }
+// Why a log refuses to tell a time past its last row.
+fn refusal_past_end<L: Readable>(log: &L) -> Option<ReadFault> {
+    log.time(log.len()).err()
 }
 
 // Adds the rows as far as they are taken, compares, and prints what was taken and told.
@@ -43,35 +36,39 @@ fn try_growing<L: Growing>(
     tally: &mut Tally,
 ) -> io::Result<()> {
     let taken = add_all(log, rows);
-    let told = told_next(log, rows, taken);
-    let past = told_past(log);
-    tally.compare(log, &rows[0..taken]);
+    let told = Told::from(refusal_of_next(log, rows, taken));
+    let past = Told::from(refusal_past_end(log));
+    tally.compare(log, &rows[..taken]);
     println!(rt; "  {kind}: {taken} rows taken, then told {told}; past the end told {past}")
 }
 
+// Compares what was read of a sheet, and prints how much it is and what was told.
+fn show_read<L: Readable>(
+    rt: &impl Print,
+    read: &L,
+    rows: &[Row],
+    refusal: Option<SheetFault>,
+    tally: &mut Tally,
+) -> io::Result<()> {
+    let told = Told::from(refusal);
+    let past = Told::from(refusal_past_end(read));
+    let len = read.len();
+    tally.compare(read, rows);
+    println!(rt; "  sheet: {len} rows read, told {told}; past the end told {past}")
+}
+
+// Reads the rows' bytes as a sheet; of bytes that are refused there are no rows.
 fn try_sheet(rt: &impl Print, heap: Global, rows: &[Row], tally: &mut Tally) -> io::Result<()> {
     let bytes = inputs::sheet_bytes(heap, rows)?;
-    let (sheet, answer) = Sheet::read(bytes.as_slice());
-    let told = match answer {
-        Ok(()) => 0,
-        Err(fault) => numbers::sheet_number(fault),
-    };
-    let past = told_past(&sheet);
-    let len = sheet.len();
-    tally.compare(&sheet, if answer.is_ok() { rows } else { &[] });
-    println!(rt; "  sheet: {len} rows read, told {told}; past the end told {past}")
+    match Sheet::read(&bytes) {
+        Ok(sheet) => show_read(rt, &sheet, rows, None, tally),
+        Err(fault) => show_read(rt, &MaskLog::new(), &[], Some(fault), tally),
+    }
 }
 
 // Whether two logs answer alike at every row and mark, and past the end.
 fn alike<A: Readable, B: Readable>(a: &A, b: &B) -> bool {
-    for row in 0..=a.len() {
-        for mark in 0..=32u32 {
-            if !same_answers(a, b, row, mark) {
-                return false;
-            }
-        }
-    }
-    true
+    (0..=a.len()).all(|row| (0..=32).all(|mark| same_answers(a, b, row, mark)))
 }
 
 // The three kinds on the same rows.
@@ -96,7 +93,7 @@ fn try_rows(
 fn main(rt: HostRuntime) -> io::Result<()> {
     println!(rt; "told is the number of a refusal, or 0")?;
     let heap = rt.alloc();
-    let mut tally = Tally::new();
+    let mut tally = Tally::default();
     let many = inputs::many();
     let busy = inputs::busy();
     try_rows(&rt, heap, "no row", &[], &mut tally)?;
