@@ -3,42 +3,42 @@ use checker::check::check;
 use comparison::dice::Dice;
 use comparison::futures::Futures;
 use comparison::inputs::Inputs;
-use comparison::library::{Store, rows_of, sheet_bytes, table_of, told_checked, told_settled};
+use comparison::library::{rows_of, table_of, told, told_checked};
 use comparison::tally::Place;
 use comparison::work::Work;
 use evaluator::told::Told;
-use evaluator::ways::{Ways, list_ways};
 use evaluator::world::World;
 use logs::any_log::add_all;
 use logs::changes::ChangeLog;
 use logs::mask::MaskLog;
 use logs::sheet::Sheet;
+use logs::traits::Readable;
 use mtl::ruling::Claim;
 use mtl::table::Table;
 use std::alloc::{AllocError, Global};
 use writer::settle::settle;
 
 #[derive(Drop)]
-pub(crate) struct Bench {
+pub(crate) struct Bench<'a> {
     pub(crate) heap: Global,
     trial: u32,
     pub(crate) world: World,
     pub(crate) futures: Futures,
-    // Ways whose condition may fail.
-    pub(crate) near: Ways,
     table: Table,
-    masks: MaskLog,
-    changes: ChangeLog,
-    sheet: Vec<u8>,
+    pub(crate) masks: MaskLog,
+    pub(crate) changes: ChangeLog,
+    pub(crate) sheet: Sheet<'a>,
 }
 
-impl Bench {
+impl<'a> Bench<'a> {
+    // The bench of a trial; the sheet has the same rows.
     pub(crate) fn of(
         heap: Global,
         trial: u32,
         inputs: &Inputs,
+        sheet: Sheet<'a>,
         dice: &mut Dice,
-    ) -> Result<Bench, AllocError> {
+    ) -> Result<Bench<'a>, AllocError> {
         let rules = inputs.rules.as_slice();
         let moments = inputs.rows.as_slice();
         let rows = rows_of(heap, moments)?;
@@ -50,12 +50,11 @@ impl Bench {
             heap,
             trial,
             world: World::of(heap, rules, moments)?,
-            near: list_ways(heap, rules, moments, true)?,
             futures: Futures::of(heap, dice, rules, moments, 3)?,
             table: table_of(rules),
             masks,
             changes,
-            sheet: sheet_bytes(heap, rows.as_slice())?,
+            sheet,
         })
     }
 
@@ -65,38 +64,27 @@ impl Bench {
         Place { trial, line, row }
     }
 
-    // Check, on one kind of log.
-    pub(crate) fn check(&self, store: Store, certificate: &[u8], stack: &mut [Claim]) -> Told {
-        let table = &self.table;
-        told_checked(match store {
-            Store::Mask => check(table, &self.masks, certificate, stack),
-            Store::Change => check(table, &self.changes, certificate, stack),
-            Store::Sheet => {
-                let (sheet, _) = Sheet::read(self.sheet.as_slice());
-                check(table, &sheet, certificate, stack)
-            }
-        })
+    // Check, on one of the logs.
+    pub(crate) fn check<L: Readable>(
+        &self,
+        log: &L,
+        certificate: &[u8],
+        stack: &mut [Claim],
+    ) -> Told {
+        told_checked(check(&self.table, log, certificate, stack))
     }
 
-    // Settle, on one kind of log.
-    pub(crate) fn settle(
+    // Settle, on one of the logs.
+    pub(crate) fn settle<L: Readable>(
         &self,
-        store: Store,
+        log: &L,
         line: usize,
         row: usize,
         work: &mut Work,
         out: &mut [u8],
     ) -> Told {
-        let table = &self.table;
         let sizes = &mut work.sizes;
         let plan = &mut work.plan;
-        told_settled(match store {
-            Store::Mask => settle(table, &self.masks, line, row, sizes, plan, out),
-            Store::Change => settle(table, &self.changes, line, row, sizes, plan, out),
-            Store::Sheet => {
-                let (sheet, _) = Sheet::read(self.sheet.as_slice());
-                settle(table, &sheet, line, row, sizes, plan, out)
-            }
-        })
+        told(settle(&self.table, log, line, row, sizes, plan, out))
     }
 }

@@ -4,16 +4,17 @@
 mod bench;
 mod checking;
 mod settling;
-mod tallies;
 
+use anyhow::anyhow;
 use bench::Bench;
-use checking::{Desk, check_all};
+use checking::Checking;
 use comparison::dice::Dice;
 use comparison::inputs::inputs_of;
-use comparison::work::{MORE, NEEDED, Work};
-use settling::settle_all;
-use std::alloc::{AllocError, Global};
-use tallies::Tallies;
+use comparison::library::{rows_of, sheet_bytes};
+use comparison::tally::print_all;
+use logs::sheet::Sheet;
+use settling::Settling;
+use std::alloc::Global;
 
 const TRIALS: u32 = 3000;
 
@@ -21,32 +22,46 @@ const TRIALS: u32 = 3000;
 fn try_table(
     heap: Global,
     trial: u32,
-    work: &mut Work,
-    desk: &mut Desk,
-    tallies: &mut Tallies,
-) -> Result<(), AllocError> {
+    settling: &mut Settling,
+    checking: &mut Checking,
+) -> anyhow::Result<()> {
     let inputs = inputs_of(heap, trial)?;
+    let rows = rows_of(heap, inputs.rows.as_slice())?;
+    let bytes = sheet_bytes(heap, rows.as_slice())?;
+    let sheet = Sheet::read(bytes.as_slice()).map_err(|fault| anyhow!(
+        "trial {trial}: a sheet is refused by {fault:?}"
+    ))?;
     let mut dice = Dice::new(trial);
-    let bench = Bench::of(heap, trial, &inputs, &mut dice)?;
-    settle_all(&bench, &mut dice, work, tallies)?;
-    check_all(&bench, desk, tallies)
-}
-
-fn try_all(heap: Global) -> Result<Tallies, AllocError> {
-    let mut tallies = Tallies::new(heap);
-    let mut work = Work::new(heap, NEEDED + MORE, NEEDED + MORE)?;
-    let mut desk = Desk::new(heap)?;
-    for trial in 0..TRIALS {
-        try_table(heap, trial, &mut work, &mut desk, &mut tallies)?;
-    }
-    Ok(tallies)
+    let bench = Bench::of(heap, trial, &inputs, sheet, &mut dice)?;
+    settling.all(&bench, &mut dice)?;
+    checking.all(&bench)?;
+    Ok(())
 }
 
 fn main(rt: HostRuntime) -> anyhow::Result<()> {
-    let tallies = try_all(rt.alloc())?;
+    let mut settling = Settling::new(rt.alloc())?;
+    let mut checking = Checking::new(rt.alloc())?;
+    for trial in 0..TRIALS {
+        try_table(rt.alloc(), trial, &mut settling, &mut checking)?;
+    }
     println!(rt; "{TRIALS} tables and logs")?;
-    tallies.print(&rt)?;
-    let differ = tallies.differ();
-    println!(rt; "differ {differ}")?;
+    let topics = [
+        ("settle, answers", &settling.answers),
+        ("settle, bytes written and left", &settling.written),
+        (
+            "settle, rulings true in continuations",
+            &settling.settled_true,
+        ),
+        ("settle, in reach and not open", &settling.reached),
+        ("settle, work buffers filled", &settling.filled),
+        ("settle, short buffers", &settling.short),
+        ("check, certificates as written", &checking.written),
+        ("check, damaged certificates", &checking.damaged),
+        (
+            "check, accepted damage true in continuations",
+            &checking.damaged_true,
+        ),
+    ];
+    print_all(&rt, &topics)?;
     Ok(())
 }

@@ -1,105 +1,131 @@
 // Settle at every line and row, against the evaluator.
 use crate::bench::Bench;
-use crate::tallies::Tallies;
 use comparison::dice::Dice;
-use comparison::library::Store;
+use comparison::tally::Tally;
 use comparison::work::{BYTE, MORE, NEEDED, Work, holds};
-use evaluator::told::refused;
-use std::alloc::AllocError;
+use evaluator::told::{Question, claim_at};
+use logs::traits::Readable;
+use std::alloc::{AllocError, Global};
 
-// One line at one row: the answer, the bytes written, the ruling in continuations, and reach.
-fn settle_once(
-    bench: &Bench,
-    store: Store,
-    line: usize,
-    row: usize,
-    work: &mut Work,
-    tallies: &mut Tallies,
-) -> Result<(), AllocError> {
-    let world = &bench.world;
-    let place = bench.place(line, row);
-    let expected = world.settle(line, row, NEEDED, usize::MAX);
-    let bytes = match expected.claim_at(line, row) {
-        Some(claim) => world.certificates.bytes(claim),
-        None => &[],
-    };
-    let mut out = vec![in bench.heap; BYTE; bytes.len().saturating_add(MORE)]?;
-    let got = bench.settle(store, line, row, work, &mut out);
-    tallies.settled.answer(place, expected, got)?;
-    tallies
-        .written
-        .right(place, holds(out.as_slice(), bytes), got)?;
-    if let Some(claim) = got.claim_at(line, row) {
-        let right = bench.futures.agree(world.rules.as_slice(), claim);
-        tallies.settled_true.right(place, right, got)?;
-    }
-    if world.reach.at(line, row) {
-        tallies.reached.right(place, got != refused(24), got)?;
-    }
-    Ok(())
+// Work buffers that are long enough, and what came out.
+#[derive(Drop)]
+pub(crate) struct Settling {
+    work: Work,
+    // The ruling and the size, or the refusal.
+    pub(crate) answers: Tally,
+    // The bytes written, and those after them.
+    pub(crate) written: Tally,
+    // Rulings in continuations.
+    pub(crate) settled_true: Tally,
+    // What is in reach is not open.
+    pub(crate) reached: Tally,
+    // All cells of the first work buffer, and what comes after the cells.
+    pub(crate) filled: Tally,
+    // Buffers that are too short, and what they then hold.
+    pub(crate) short: Tally,
 }
 
-// Every line at every row, and one more of each, which are refused.
-fn settle_everywhere(
-    bench: &Bench,
-    store: Store,
-    work: &mut Work,
-    tallies: &mut Tallies,
-) -> Result<(), AllocError> {
-    for line in 0..=bench.world.rules.len() {
-        for row in 0..=bench.world.rows.len() {
-            settle_once(bench, store, line, row, work, tallies)?;
+impl Settling {
+    pub(crate) fn new(heap: Global) -> Result<Settling, AllocError> {
+        Ok(Settling {
+            work: Work::new(heap, NEEDED + MORE, NEEDED + MORE)?,
+            answers: Tally::new(heap),
+            written: Tally::new(heap),
+            settled_true: Tally::new(heap),
+            reached: Tally::new(heap),
+            filled: Tally::new(heap),
+            short: Tally::new(heap),
+        })
+    }
+
+    // One line at one row: the answer, the bytes written, the ruling in continuations, and reach.
+    fn once<L: Readable>(
+        &mut self,
+        bench: &Bench<'_>,
+        log: &L,
+        line: usize,
+        row: usize,
+    ) -> Result<(), AllocError> {
+        let world = &bench.world;
+        let place = bench.place(line, row);
+        let expected = world.settle(line, row, NEEDED, usize::MAX);
+        let bytes = claim_at(expected, line, row)
+            .and_then(|claim| world.certificates.bytes(claim))
+            .unwrap_or(&[]);
+        let mut out = vec![in bench.heap; BYTE; bytes.len().saturating_add(MORE)]?;
+        let got = bench.settle(log, line, row, &mut self.work, &mut out);
+        self.answers.answer(place, expected, got)?;
+        self.written
+            .right(place, holds(out.as_slice(), bytes), got)?;
+        if let Some(claim) = claim_at(got, line, row) {
+            let right = bench.futures.agree(world.rules.as_slice(), claim);
+            self.settled_true.right(place, right, got)?;
         }
+        if world.reach.at(line, row) {
+            let open = got == Err(Question::IsRuled.into());
+            self.reached.right(place, !open, got)?;
+        }
+        Ok(())
     }
-    Ok(())
-}
 
-// A call with buffers that may be too short, and what they hold afterwards.
-fn settle_short(
-    bench: &Bench,
-    store: Store,
-    dice: &mut Dice,
-    tallies: &mut Tallies,
-) -> Result<(), AllocError> {
-    let sizes = if dice.once_in(4) {
-        NEEDED - 1
-    } else {
-        NEEDED + MORE
-    };
-    let plan = if dice.once_in(4) { NEEDED - 1 } else { NEEDED };
-    let mut work = Work::new(bench.heap, sizes, plan)?;
-    let line = dice.index(bench.world.rules.len().saturating_add(1));
-    let row = dice.index(bench.world.rows.len().saturating_add(1));
-    let room = dice.index(30);
-    let place = bench.place(line, row);
-    let mut out = vec![in bench.heap; BYTE; room]?;
-    let expected = bench.world.settle(line, row, work.cells(), room);
-    let got = bench.settle(store, line, row, &mut work, &mut out);
-    tallies.short.answer(place, expected, got)?;
-    if got == refused(21) || got == refused(22) || got == refused(23) {
-        tallies.short.right(place, work.is_untouched(), got)?;
-    } else {
-        tallies
-            .filled
-            .right(place, work.is_filled(&bench.world), got)?;
+    // A call with buffers that may be too short, and what they hold afterwards.
+    fn with_short_buffers<L: Readable>(
+        &mut self,
+        bench: &Bench<'_>,
+        log: &L,
+        dice: &mut Dice,
+    ) -> Result<(), AllocError> {
+        let sizes = if dice.once_in(4) {
+            NEEDED - 1
+        } else {
+            NEEDED + MORE
+        };
+        let plan = if dice.once_in(4) { NEEDED - 1 } else { NEEDED };
+        let mut work = Work::new(bench.heap, sizes, plan)?;
+        let line = dice.index(bench.world.rules.len().saturating_add(1));
+        let row = dice.index(bench.world.rows.len().saturating_add(1));
+        let room = dice.index(30);
+        let place = bench.place(line, row);
+        let mut out = vec![in bench.heap; BYTE; room]?;
+        let expected = bench.world.settle(line, row, work.cells(), room);
+        let got = bench.settle(log, line, row, &mut work, &mut out);
+        self.short.answer(place, expected, got)?;
+        let unbegun = [
+            Question::LineIsThere,
+            Question::RowIsThere,
+            Question::CellsAreEnough,
+        ];
+        if got.is_err_and(|refused| refused.is_by(&unbegun)) {
+            self.short.right(place, work.is_untouched(), got)?;
+        } else {
+            self.filled.right(place, work.is_filled(&bench.world), got)?;
+        }
+        if claim_at(got, line, row).is_none() {
+            self.short.right(place, holds(out.as_slice(), &[]), got)?;
+        }
+        Ok(())
     }
-    if got.claim_at(line, row).is_none() {
-        tallies.short.right(place, holds(out.as_slice(), &[]), got)?;
-    }
-    Ok(())
-}
 
-// Settle on all three kinds of log.
-pub(crate) fn settle_all(
-    bench: &Bench,
-    dice: &mut Dice,
-    work: &mut Work,
-    tallies: &mut Tallies,
-) -> Result<(), AllocError> {
-    for store in [Store::Mask, Store::Change, Store::Sheet] {
-        settle_everywhere(bench, store, work, tallies)?;
-        settle_short(bench, store, dice, tallies)?;
-        settle_short(bench, store, dice, tallies)?;
+    // Every line at every row, and one more of each, which are refused; then short buffers.
+    fn on<L: Readable>(
+        &mut self,
+        bench: &Bench<'_>,
+        log: &L,
+        dice: &mut Dice,
+    ) -> Result<(), AllocError> {
+        for line in 0..=bench.world.rules.len() {
+            for row in 0..=bench.world.rows.len() {
+                self.once(bench, log, line, row)?;
+            }
+        }
+        self.with_short_buffers(bench, log, dice)?;
+        self.with_short_buffers(bench, log, dice)
     }
-    Ok(())
+
+    // Settle on all three kinds of log.
+    pub(crate) fn all(&mut self, bench: &Bench<'_>, dice: &mut Dice) -> Result<(), AllocError> {
+        self.on(bench, &bench.masks, dice)?;
+        self.on(bench, &bench.changes, dice)?;
+        self.on(bench, &bench.sheet, dice)
+    }
 }

@@ -4,27 +4,31 @@ use crate::tallies::Tallies;
 use cases::case::Case;
 use comparison::dice::Dice;
 use comparison::futures::Futures;
-use comparison::library::{Store, row_of, told_added, told_checked, told_settled, told_shown};
+use comparison::library::{row_of, told, told_checked};
 use comparison::tally::Place;
 use comparison::work::{BLANK, BYTE, NEEDED, Work, holds, is_blank};
-use evaluator::rules::{Moment, Rule, Statement};
-use evaluator::told::Told;
+use evaluator::rules::{Moment, Statement};
+use evaluator::told::{Answer, Question, Told, claim_at};
 use logs::traits::Growing;
 use mtl::ruling::Claim;
 use std::alloc::{AllocError, Global};
 
-// What random calls are made with: the model, and certificates from earlier calls.
+// A case and what random calls are made on it with: its model, and certificates from earlier calls.
 #[derive(Drop)]
-pub(crate) struct Run {
+pub(crate) struct Run<L: Growing> {
     heap: Global,
     trial: u32,
     dice: Dice,
+    case: Case<L>,
     model: Model,
     work: Work,
     certificates: Vec<Vec<u8>>,
     // Whether most calls add rows, which differ in many marks from one to the next.
     busy: bool,
 }
+
+// A certificate of one node: line 0 at row 0 by rule 2.
+const NO_MARK: &[u8] = &[0, 2, 0, 0, 0, 0];
 
 // A line or row, now and then one that is not there.
 fn pick(dice: &mut Dice, count: usize) -> usize {
@@ -35,22 +39,21 @@ fn pick(dice: &mut Dice, count: usize) -> usize {
     }
 }
 
-impl Run {
+impl<L: Growing + Drop> Run<L> {
     pub(crate) fn new(
         heap: Global,
         trial: u32,
-        store: Store,
-        rules: Vec<Rule>,
+        case: Case<L>,
+        model: Model,
         busy: bool,
-    ) -> Result<Run, AllocError> {
-        let model = Model::new(heap, store, rules)?;
-        let work = Work::new(heap, NEEDED, NEEDED)?;
+    ) -> Result<Run<L>, AllocError> {
         Ok(Run {
             heap,
             trial,
             dice: Dice::new(trial),
+            case,
             model,
-            work,
+            work: Work::new(heap, NEEDED, NEEDED)?,
             certificates: Vec::new(heap),
             busy,
         })
@@ -96,7 +99,7 @@ impl Run {
         let rules = self.model.rules.as_slice();
         let rows = self.model.rows.as_slice();
         let futures = Futures::of(self.heap, &mut self.dice, rules, rows, 2)?;
-        let answer = Told::Proved(claim);
+        let answer = Ok(Answer::Proved(claim));
         tallies
             .given_true
             .right(place, futures.agree(rules, claim), answer)?;
@@ -104,25 +107,17 @@ impl Run {
         tallies.kept.right(place, kept, answer)
     }
 
-    fn add<L: Growing>(
-        &mut self,
-        case: &mut Case<L>,
-        tallies: &mut Tallies,
-    ) -> Result<(), AllocError> {
+    fn add(&mut self, tallies: &mut Tallies) -> Result<(), AllocError> {
         let place = self.place();
         let row = self.next_row();
         let expected = self.model.add(row)?;
-        let got = told_added(case.add(row_of(row)));
+        let got = told(self.case.add(row_of(row)));
         tallies.added.answer(place, expected, got)
     }
 
-    fn show<L: Growing>(
-        &mut self,
-        case: &mut Case<L>,
-        tallies: &mut Tallies,
-    ) -> Result<(), AllocError> {
+    fn show(&mut self, tallies: &mut Tallies) -> Result<(), AllocError> {
         let place = self.place();
-        let got = told_shown(case.show(place.line, place.row));
+        let got = told(self.case.show(place.line, place.row));
         let expected = self.model.show(place.line, place.row);
         tallies.shown.answer(place, expected, got)
     }
@@ -144,10 +139,10 @@ impl Run {
         out: &[u8],
         tallies: &mut Tallies,
     ) -> Result<(), AllocError> {
-        let Some(claim) = got.claim_at(place.line, place.row) else {
+        let Some(claim) = claim_at(got, place.line, place.row) else {
             return tallies.ruled.right(place, holds(out, &[]), got);
         };
-        let bytes = Vec::from_slice(self.heap, self.model.world.certificates.bytes(claim))?;
+        let bytes = self.model.certificate(self.heap, claim)?;
         tallies
             .ruled
             .right(place, holds(out, bytes.as_slice()), got)?;
@@ -155,11 +150,7 @@ impl Run {
         self.given(claim, tallies)
     }
 
-    fn settle<L: Growing>(
-        &mut self,
-        case: &mut Case<L>,
-        tallies: &mut Tallies,
-    ) -> Result<(), AllocError> {
+    fn settle(&mut self, tallies: &mut Tallies) -> Result<(), AllocError> {
         self.model.refresh(self.heap)?;
         let place = self.place();
         let (line, row) = (place.line, place.row);
@@ -167,26 +158,25 @@ impl Run {
         let mut out = vec![in self.heap; BYTE; room]?;
         let sizes = &mut self.work.sizes;
         let plan = &mut self.work.plan;
-        let got = told_settled(case.settle(line, row, sizes, plan, &mut out));
+        let got = told(self.case.settle(line, row, sizes, plan, &mut out));
         let expected = self.model.world.settle(line, row, NEEDED, room);
         tallies.ruled.answer(place, expected, got)?;
         self.wrote(place, got, out.as_slice(), tallies)
     }
 
-    // A certificate from an earlier call.
+    // A certificate from an earlier call; before there is one, that of one node.
     fn earlier(&mut self) -> Result<Vec<u8>, AllocError> {
-        let count = self.certificates.len();
-        let number = self.dice.index(count);
-        match self.certificates.as_slice().get(number) {
-            Some(bytes) => Vec::from_slice(self.heap, bytes.as_slice()),
-            None => Vec::from_slice(self.heap, &[0, 2, 0, 0, 0, 0]),
-        }
+        let bytes = self
+            .dice
+            .choose(self.certificates.as_slice())
+            .map_or(NO_MARK, |bytes| bytes.as_slice());
+        Vec::from_slice(self.heap, bytes)
     }
 
     // Now and then a byte is changed, or the end is cut off.
     fn damage(&mut self, bytes: &mut Vec<u8>) {
         let at = self.dice.index(bytes.len());
-        let value = (self.dice.below(27) & 0xff) as u8;
+        let value = self.dice.byte(27);
         if self.dice.once_in(3) {
             if let Some(byte) = bytes.get_mut(at) {
                 *byte = value;
@@ -196,7 +186,7 @@ impl Run {
         }
     }
 
-    // What goes with an answer of Present: an accepted claim is given, and 11 to 13 leave the stack.
+    // What goes with an answer of Present: an accepted claim is given, and a certificate that is not read leaves the stack.
     fn answered(
         &mut self,
         place: Place,
@@ -204,20 +194,21 @@ impl Run {
         stack: &[Claim],
         tallies: &mut Tallies,
     ) -> Result<(), AllocError> {
+        let unread = [
+            Question::NodesAreWhole,
+            Question::NodesAreFew,
+            Question::StackHasRoom,
+        ];
         match got {
-            Told::Proved(claim) => self.given(claim, tallies),
-            Told::Refused { question, .. } if question < 14 => {
+            Ok(Answer::Proved(claim)) => self.given(claim, tallies),
+            Err(refused) if refused.is_by(&unread) => {
                 tallies.presented.right(place, is_blank(stack), got)
             }
             _ => Ok(()),
         }
     }
 
-    fn present<L: Growing>(
-        &mut self,
-        case: &mut Case<L>,
-        tallies: &mut Tallies,
-    ) -> Result<(), AllocError> {
+    fn present(&mut self, tallies: &mut Tallies) -> Result<(), AllocError> {
         self.model.refresh(self.heap)?;
         let place = self.place();
         let mut bytes = self.earlier()?;
@@ -225,23 +216,19 @@ impl Run {
         let short = if self.dice.once_in(10) { 1 } else { 0 };
         let places = (bytes.len() / 6).saturating_sub(short);
         let mut stack = vec![in self.heap; BLANK; places]?;
-        let got = told_checked(case.present(bytes.as_slice(), &mut stack));
+        let got = told_checked(self.case.present(bytes.as_slice(), &mut stack));
         let expected = self.model.world.check(self.heap, bytes.as_slice(), places)?;
         tallies.presented.answer(place, expected, got)?;
         self.answered(place, got, stack.as_slice(), tallies)
     }
 
     // Makes one call.
-    pub(crate) fn call<L: Growing>(
-        &mut self,
-        case: &mut Case<L>,
-        tallies: &mut Tallies,
-    ) -> Result<(), AllocError> {
+    pub(crate) fn call(&mut self, tallies: &mut Tallies) -> Result<(), AllocError> {
         match self.dice.below(if self.busy { 40 } else { 8 }) {
-            0 | 1 => self.settle(case, tallies),
-            2 | 3 => self.present(case, tallies),
-            4 => self.show(case, tallies),
-            _ => self.add(case, tallies),
+            0 | 1 => self.settle(tallies),
+            2 | 3 => self.present(tallies),
+            4 => self.show(tallies),
+            _ => self.add(tallies),
         }
     }
 }

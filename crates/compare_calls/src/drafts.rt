@@ -1,58 +1,38 @@
 // Random lines entered into drafts, against the questions asked one by one.
 use comparison::dice::Dice;
-use comparison::library::told_entered;
+use comparison::library::told;
 use comparison::tally::{Place, Tally};
-use evaluator::told::{Told, refused};
+use evaluator::rules::Kind;
+use evaluator::told::{Answer, Question, Told};
 use mtl::draft::Draft;
 use mtl::line::Fields;
 use std::alloc::AllocError;
 
-// A letter, and how many operands and which window its kind has.
-const LETTERS: [(char, u32, bool); 8] = [
-    ('m', 0, false),
-    ('n', 1, false),
-    ('a', 2, false),
-    ('o', 2, false),
-    ('p', 1, true),
-    ('x', 1, true),
-    ('s', 2, true),
-    ('u', 2, true),
+const KINDS: [Kind; 8] = [
+    Kind::Mark,
+    Kind::Not,
+    Kind::And,
+    Kind::Or,
+    Kind::Previous,
+    Kind::Next,
+    Kind::Since,
+    Kind::Until,
 ];
 
-// What entering is to tell, after so many lines.
-fn expected(lines: usize, letter: char, fields: &Fields) -> Told {
-    if lines >= 32 {
-        return refused(1);
-    }
-    for (known, operands, windowed) in LETTERS {
-        if known == letter {
-            return asked(lines, letter, operands, windowed, fields);
-        }
-    }
-    refused(2)
-}
-
-fn asked(lines: usize, letter: char, operands: u32, windowed: bool, fields: &Fields) -> Told {
-    if letter == 'm' && fields.left > 31 {
-        return refused(3);
-    }
-    let left_late = operands > 0 && fields.left as usize >= lines;
-    let right_late = operands > 1 && fields.right as usize >= lines;
-    if left_late || right_late {
-        return refused(4);
-    }
-    match fields.to {
-        Some(to) if windowed && to < fields.from => refused(5),
-        None if letter == 'u' => refused(6),
-        _ => Told::Done,
-    }
-}
-
-fn letter_at(number: u32) -> char {
-    match LETTERS.get(number as usize) {
-        Some((letter, _, _)) => *letter,
-        None => 'q',
-    }
+// What entering is to tell, after so many lines; no kind has an unknown letter.
+fn expected(lines: usize, kind: Option<Kind>, fields: &Fields) -> Told {
+    Question::DraftHasRoom.ask(lines < 32)?;
+    let kind = kind.ok_or(Question::KindIsKnown)?;
+    Question::MarkIsSmall.ask(kind != Kind::Mark || fields.left < 32)?;
+    let earlier = [fields.left, fields.right]
+        .iter()
+        .take(kind.operands())
+        .all(|operand| (*operand as usize) < lines);
+    Question::OperandsAreEarlier.ask(earlier)?;
+    let whole = !kind.has_window() || fields.to.is_none_or(|to| fields.from <= to);
+    Question::WindowIsWhole.ask(whole)?;
+    Question::UntilEnds.ask(kind != Kind::Until || fields.to.is_some())?;
+    Ok(Answer::Done)
 }
 
 // A number that is mostly small.
@@ -62,7 +42,7 @@ fn number(dice: &mut Dice, lines: usize) -> u32 {
     } else if dice.once_in(3) {
         dice.below(34)
     } else {
-        (dice.index(lines.max(1)) & 0xff) as u32
+        u32::try_from(dice.index(lines.max(1))).unwrap_or(0)
     }
 }
 
@@ -85,15 +65,17 @@ fn fields_of(dice: &mut Dice, lines: usize) -> Fields {
 pub(crate) fn enter_all(trial: u32, tally: &mut Tally) -> Result<(), AllocError> {
     let mut dice = Dice::new(trial);
     let mut draft = Draft::new();
+    // How many lines the draft should have: some of the sixty are refused, so no `enumerate` counts them.
     let mut line = 0usize;
     for row in 0..60usize {
         let place = Place { trial, line, row };
-        let letter = letter_at(dice.below(9));
+        let kind = KINDS.get(dice.index(9)).copied();
+        let letter = kind.map_or('q', |kind| char::from(kind));
         let fields = fields_of(&mut dice, line);
-        let expected = expected(line, letter, &fields);
-        let got = told_entered(draft.enter(letter, fields));
+        let expected = expected(line, kind, &fields);
+        let got = told(draft.enter(letter, fields));
         tally.answer(place, expected, got)?;
-        if let Told::Done = expected {
+        if expected.is_ok() {
             line = line.saturating_add(1);
         }
         tally.right(place, draft.len() == line, got)?;
@@ -103,5 +85,5 @@ pub(crate) fn enter_all(trial: u32, tally: &mut Tally) -> Result<(), AllocError>
         line,
         row: 60,
     };
-    tally.right(place, draft.close().len() == line, Told::Done)
+    tally.right(place, draft.close().len() == line, Ok(Answer::Done))
 }

@@ -1,5 +1,5 @@
 // The topics of this program.
-use comparison::tally::Tally;
+use comparison::tally::{Tally, print_all};
 use std::alloc::Global;
 use std::io;
 
@@ -20,42 +20,27 @@ pub(crate) struct Tallies {
 impl Tallies {
     pub(crate) fn new(heap: Global) -> Tallies {
         Tallies {
-            added: Tally::new(heap, "case, add"),
-            presented: Tally::new(heap, "case, present"),
-            ruled: Tally::new(heap, "case, settle"),
-            shown: Tally::new(heap, "case, show"),
-            given_true: Tally::new(heap, "case, rulings true in continuations"),
-            kept: Tally::new(heap, "case, rulings not reversed"),
-            entered: Tally::new(heap, "draft, enter"),
+            added: Tally::new(heap),
+            presented: Tally::new(heap),
+            ruled: Tally::new(heap),
+            shown: Tally::new(heap),
+            given_true: Tally::new(heap),
+            kept: Tally::new(heap),
+            entered: Tally::new(heap),
         }
     }
 
-    // Prints every topic.
-    pub(crate) fn print(&self, rt: &HostRuntime) -> io::Result<()> {
-        self.added.print(rt)?;
-        self.presented.print(rt)?;
-        self.ruled.print(rt)?;
-        self.shown.print(rt)?;
-        self.given_true.print(rt)?;
-        self.kept.print(rt)?;
-        self.entered.print(rt)
-    }
-
-    // How many differences there are in all.
-    pub(crate) fn differ(&self) -> u64 {
-        let counts = [
-            self.added.differ(),
-            self.presented.differ(),
-            self.ruled.differ(),
-            self.shown.differ(),
-            self.given_true.differ(),
-            self.kept.differ(),
-            self.entered.differ(),
+    // Prints every topic, and how many differences there are in all.
+    pub(crate) fn print(&self, rt: &impl Print) -> io::Result<()> {
+        let topics = [
+            ("case, add", &self.added),
+            ("case, present", &self.presented),
+            ("case, settle", &self.ruled),
+            ("case, show", &self.shown),
+            ("case, rulings true in continuations", &self.given_true),
+            ("case, rulings not reversed", &self.kept),
+            ("draft, enter", &self.entered),
         ];
-        let mut differ = 0u64;
-        for count in counts {
-            differ = differ.saturating_add(count);
-        }
-        differ
+        print_all(rt, &topics)
     }
 }

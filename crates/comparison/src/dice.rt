@@ -26,13 +26,19 @@ impl Dice {
         if limit == 0 { 0 } else { self.any() % limit }
     }
 
+    // A byte below `limit`, or 0 where there is none.
+    pub fn byte(&mut self, limit: u8) -> u8 {
+        u8::try_from(self.below(u32::from(limit))).unwrap_or(0)
+    }
+
     // An index below a length, or 0 where there is none.
     pub fn index(&mut self, length: usize) -> usize {
-        if length == 0 {
-            0
-        } else {
-            self.any() as usize % length
-        }
+        self.below(u32::try_from(length).unwrap_or(u32::MAX)) as usize
+    }
+
+    // One of these, if there is any.
+    pub fn choose<'a, T>(&mut self, from: &'a [T]) -> Option<&'a T> {
+        from.get(self.index(from.len()))
     }
 
     // Yes, once in so many times.

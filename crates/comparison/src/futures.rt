@@ -1,7 +1,7 @@
 // Random continuations of a log's rows, long enough for every nesting of next and until.
 use crate::dice::Dice;
 use evaluator::rules::{Moment, Rule, Statement};
-use evaluator::truth::truth;
+use evaluator::truth::Course;
 use std::alloc::{AllocError, Global};
 
 // Some continuations.
@@ -12,20 +12,17 @@ pub struct Futures {
 
 // One more than any window's start or end.
 fn past_all_windows(rules: &[Rule]) -> u64 {
-    let mut most = 0;
-    for rule in rules {
-        most = rule.from.max(most);
-        if let Some(to) = rule.to {
-            most = to.max(most);
-        }
-    }
-    most.saturating_add(1)
+    rules
+        .iter()
+        .map(|rule| rule.to.unwrap_or(0).max(rule.from))
+        .max()
+        .map_or(1, |most| most.saturating_add(1))
 }
 
 // A time from the last one on: the same, a little later, or exactly at the end of some row's window.
 fn time_after(dice: &mut Dice, rules: &[Rule], rows: &[Moment], last: u64) -> u64 {
-    let rule = rules.get(dice.index(rules.len()));
-    let row = rows.get(dice.index(rows.len()));
+    let rule = dice.choose(rules);
+    let row = dice.choose(rows);
     match (rule, row) {
         (Some(Rule { to: Some(to), .. }), Some(row)) if dice.once_in(3) => {
             row.time.saturating_add(*to).max(last)
@@ -42,10 +39,7 @@ fn continued(
     rows: &[Moment],
 ) -> Result<Vec<Moment>, AllocError> {
     let mut list = Vec::from_slice(heap, rows)?;
-    let mut time = match rows.last() {
-        Some(row) => row.time,
-        None => 0,
-    };
+    let mut time = rows.last().map_or(0, |row| row.time);
     for _ in 0..dice.below(6) {
         time = time_after(dice, rules, list.as_slice(), time);
         list.push(Moment {
@@ -84,11 +78,12 @@ impl Futures {
 
     // Whether a claim is true in every one of them.
     pub fn agree(&self, rules: &[Rule], claim: Statement) -> bool {
-        for list in &self.lists {
-            if truth(rules, list.as_slice(), claim.line, claim.row) != Some(claim.held) {
-                return false;
-            }
-        }
-        true
+        self.lists.iter().all(|list| {
+            let course = Course {
+                rules,
+                rows: list.as_slice(),
+            };
+            course.truth(claim.line, claim.row) == Some(claim.held)
+        })
     }
 }

@@ -10,14 +10,6 @@ pub struct Inputs {
     pub rows: Vec<Moment>,
 }
 
-impl Inputs {
-    // The rules alone.
-    pub fn into_rules(self) -> Vec<Rule> {
-        let Inputs { rules, rows: _ } = self;
-        rules
-    }
-}
-
 // How far apart rows and how wide windows may be, and where time begins.
 #[derive(Clone, Copy)]
 struct Scale {
@@ -27,6 +19,15 @@ struct Scale {
 }
 
 const LAST_TIME: u64 = 4_294_967_295;
+
+// The first mark's line, from which other lines are made.
+const MARK: Rule = Rule {
+    kind: Kind::Mark,
+    left: 0,
+    right: 0,
+    from: 0,
+    to: None,
+};
 
 fn scale_of(dice: &mut Dice) -> Scale {
     match dice.below(8) {
@@ -58,18 +59,24 @@ fn scale_of(dice: &mut Dice) -> Scale {
     }
 }
 
-fn kind_at(number: u32) -> Kind {
-    match number {
-        0 => Kind::Mark,
-        1 | 2 => Kind::Not,
-        3 => Kind::And,
-        4 => Kind::Or,
-        5 | 6 => Kind::Previous,
-        7 | 8 => Kind::Next,
-        9 | 10 | 11 => Kind::Since,
-        _ => Kind::Until,
-    }
-}
+// The kinds that come after the first lines, each as often as it stands here.
+const KINDS: [Kind; 15] = [
+    Kind::Mark,
+    Kind::Not,
+    Kind::Not,
+    Kind::And,
+    Kind::Or,
+    Kind::Previous,
+    Kind::Previous,
+    Kind::Next,
+    Kind::Next,
+    Kind::Since,
+    Kind::Since,
+    Kind::Since,
+    Kind::Until,
+    Kind::Until,
+    Kind::Until,
+];
 
 // An earlier line, more often than not a late one.
 fn operand(dice: &mut Dice, line: usize) -> usize {
@@ -98,7 +105,7 @@ fn rule_after(dice: &mut Dice, scale: Scale, line: usize) -> Rule {
     let kind = if line < 2 {
         Kind::Mark
     } else {
-        kind_at(dice.below(15))
+        *dice.choose(&KINDS).unwrap_or(&Kind::Mark)
     };
     let left = match kind {
         Kind::Mark if dice.once_in(6) => 31,
@@ -106,10 +113,7 @@ fn rule_after(dice: &mut Dice, scale: Scale, line: usize) -> Rule {
         _ => operand(dice, line),
     };
     let (from, to) = window(dice, scale);
-    let endless = match kind {
-        Kind::Until => false,
-        _ => dice.once_in(3),
-    };
+    let endless = kind != Kind::Until && dice.once_in(3);
     Rule {
         kind,
         left,
@@ -178,8 +182,8 @@ pub fn inputs_of(heap: Global, trial: u32) -> Result<Inputs, AllocError> {
 fn random(heap: Global, dice: &mut Dice) -> Result<Inputs, AllocError> {
     let scale = scale_of(dice);
     let many = dice.once_in(24);
-    let lines = if many { 4 } else { 2 };
-    let lines = dice.below(7).saturating_add(lines);
+    let fewest = if many { 4 } else { 2 };
+    let lines = dice.below(7).saturating_add(fewest);
     let rows = if many {
         dice.below(8).saturating_add(12)
     } else {
@@ -198,24 +202,13 @@ fn nested(heap: Global, dice: &mut Dice) -> Result<Inputs, AllocError> {
     } else {
         Kind::Until
     };
-    let width = match kind {
-        Kind::Until => 4,
-        _ => 40,
-    };
-    let mark = Rule {
-        kind: Kind::Mark,
-        left: 0,
-        right: 0,
-        from: 0,
-        to: None,
-    };
-    let mut rules = vec![in heap; mark, Rule { left: 1, ..mark }]?;
+    let width = if kind == Kind::Until { 4 } else { 40 };
+    let mut rules = vec![in heap; MARK, Rule { left: 1, ..MARK }]?;
     for line in 2..7usize {
-        let right = if line == 2 { 1 } else { line - 1 };
         rules.push(Rule {
             kind,
             left: 0,
-            right,
+            right: line - 1,
             from: 0,
             to: Some(width),
         })?;
@@ -230,29 +223,22 @@ fn nested(heap: Global, dice: &mut Dice) -> Result<Inputs, AllocError> {
 
 // Lines that look no further than the next row, for logs of many rows.
 pub fn plain_rules(heap: Global) -> Result<Vec<Rule>, AllocError> {
-    let mark = Rule {
-        kind: Kind::Mark,
-        left: 0,
-        right: 0,
-        from: 0,
-        to: None,
-    };
     let rules = vec![in heap;
-        mark,
-        Rule { left: 31, ..mark },
+        MARK,
+        Rule { left: 31, ..MARK },
         Rule {
             kind: Kind::Not,
-            ..mark
+            ..MARK
         },
         Rule {
             kind: Kind::Previous,
             to: Some(3),
-            ..mark
+            ..MARK
         },
         Rule {
             kind: Kind::Next,
             left: 1,
-            ..mark
+            ..MARK
         },
     ]?;
     Ok(rules)

@@ -1,7 +1,8 @@
 // What was compared on one topic, and what came out.
-use evaluator::told::Told;
+use evaluator::rules::Statement;
+use evaluator::told::{Answer, Refused, Told};
 use std::alloc::{AllocError, Global};
-use std::io;
+use std::{fmt, io};
 
 // Where a comparison stands: the trial's number, and a line and a row of its table and log.
 #[derive(Clone, Copy)]
@@ -25,7 +26,6 @@ const SHOWN: usize = 5;
 // The counts of a topic: comparisons, differences, rulings and refusals by number.
 #[derive(Drop)]
 pub struct Tally {
-    name: &'static str,
     compared: u64,
     differ: u64,
     held: u64,
@@ -36,9 +36,8 @@ pub struct Tally {
 
 impl Tally {
     // Nothing compared yet.
-    pub fn new(heap: Global, name: &'static str) -> Tally {
+    pub fn new(heap: Global) -> Tally {
         Tally {
-            name,
             compared: 0,
             differ: 0,
             held: 0,
@@ -46,11 +45,6 @@ impl Tally {
             refused: [0; 32],
             differences: Vec::new(heap),
         }
-    }
-
-    // How many comparisons came out otherwise than they should.
-    pub fn differ(&self) -> u64 {
-        self.differ
     }
 
     fn ruled(&mut self, held: bool) {
@@ -64,15 +58,12 @@ impl Tally {
     // Counts what the library told.
     fn count(&mut self, got: Told) {
         match got {
-            Told::Done => {}
-            Told::Shows(None) => {}
-            Told::Proved(claim) => self.ruled(claim.held),
-            Told::Ruled { held, .. } => self.ruled(held),
-            Told::Shows(Some(held)) => self.ruled(held),
-            Told::Refused { question, .. } => {
-                if question < 32 {
-                    let number = question as usize;
-                    self.refused[number] = self.refused[number].saturating_add(1);
+            Ok(Answer::Done | Answer::Shows(None)) => {}
+            Ok(Answer::Proved(Statement { held, .. })) => self.ruled(held),
+            Ok(Answer::Ruled { held, .. } | Answer::Shows(Some(held))) => self.ruled(held),
+            Err(Refused { question, .. }) => {
+                if let Some(count) = self.refused.get_mut(usize::from(question)) {
+                    *count = count.saturating_add(1);
                 }
             }
         }
@@ -115,7 +106,7 @@ impl Tally {
         })
     }
 
-    fn print_counts(&self, rt: &HostRuntime) -> io::Result<()> {
+    fn print_counts(&self, rt: &impl Print) -> io::Result<()> {
         let held = self.held;
         let broken = self.broken;
         if held > 0 || broken > 0 {
@@ -130,8 +121,7 @@ impl Tally {
     }
 
     // A line with all counts, and one for each difference that is shown.
-    pub fn print(&self, rt: &HostRuntime) -> io::Result<()> {
-        let name = self.name;
+    fn print(&self, rt: &impl Print, name: &str) -> io::Result<()> {
         let compared = self.compared;
         print!(rt; "{name}: {compared}")?;
         self.print_counts(rt)?;
@@ -142,12 +132,35 @@ impl Tally {
     }
 }
 
-fn print_difference(rt: &HostRuntime, difference: Difference) -> io::Result<()> {
-    let Place { trial, line, row } = difference.place;
-    let expected = difference.expected;
-    print!(rt; "  trial {trial} line {line} row {row}: ")?;
-    match difference.got {
-        Some(got) => println!(rt; "{got:?} for {expected:?}"),
-        None => println!(rt; "what goes with {expected:?} is wrong"),
+// An answer or a refusal, whichever was told.
+#[derive(Clone, Copy)]
+struct Shown(Told);
+
+impl fmt::Display for Shown {
+    fn fmt<W: fmt::Write>(&self, f: &mut fmt::Formatter<W>) -> fmt::Result {
+        match self.0 {
+            Ok(answer) => write!(f, "{answer:?}"),
+            Err(refused) => write!(f, "{refused:?}"),
+        }
     }
+}
+
+fn print_difference(rt: &impl Print, difference: Difference) -> io::Result<()> {
+    let Place { trial, line, row } = difference.place;
+    let expected = Shown(difference.expected);
+    print!(rt; "  trial {trial} line {line} row {row}: ")?;
+    match difference.got.map(Shown) {
+        Some(got) => println!(rt; "{got} for {expected}"),
+        None => println!(rt; "what goes with {expected} is wrong"),
+    }
+}
+
+// Prints every topic by its name, and how many comparisons came out otherwise than they should.
+pub fn print_all(rt: &impl Print, topics: &[(&str, &Tally)]) -> io::Result<()> {
+    let mut differ = 0u64;
+    for (name, tally) in topics {
+        tally.print(rt, name)?;
+        differ = differ.saturating_add(tally.differ);
+    }
+    println!(rt; "differ {differ}")
 }

@@ -32,19 +32,14 @@ fn cell(world: &World, number: usize) -> u64 {
     if row >= world.rows.len() || line >= world.rules.len() {
         return 0;
     }
-    match world.certificates.size(Statement { line, row, held }) {
-        Some(nodes) => nodes.min(4097),
-        None => 0,
-    }
+    world
+        .certificates
+        .size(Statement { line, row, held })
+        .map_or(0, |nodes| nodes.min(4097))
 }
 
 fn all_as_before(cells: &[u16]) -> bool {
-    for cell in cells {
-        if *cell != CELL {
-            return false;
-        }
-    }
-    true
+    cells.iter().all(|cell| *cell == CELL)
 }
 
 impl Work {
@@ -68,26 +63,16 @@ impl Work {
 
     // Whether the first buffer has the least sizes, and nothing after the cells was touched.
     pub fn is_filled(&self, world: &World) -> bool {
-        for (number, size) in self.sizes.iter().enumerate() {
-            if *size as u64 != cell(world, number) {
-                return false;
-            }
-        }
-        match self.plan.as_slice().get(NEEDED..) {
-            Some(rest) => all_as_before(rest),
-            None => true,
-        }
+        let mut sizes = self.sizes.iter().enumerate();
+        let rest = self.plan.as_slice().get(NEEDED..).unwrap_or(&[]);
+        sizes.all(|(number, size)| u64::from(*size) == cell(world, number)) && all_as_before(rest)
     }
 }
 
 // Whether the output begins with the bytes and is as it was after them.
 pub fn holds(out: &[u8], bytes: &[u8]) -> bool {
-    for (at, byte) in out.iter().enumerate() {
-        if *byte != bytes.get(at).copied().unwrap_or(BYTE) {
-            return false;
-        }
-    }
-    out.len() >= bytes.len()
+    out.strip_prefix(bytes)
+        .is_some_and(|rest| rest.iter().all(|byte| *byte == BYTE))
 }
 
 // What a stack holds before a call.
@@ -99,10 +84,5 @@ pub const BLANK: Claim = Claim {
 
 // Whether no place of a stack was touched.
 pub fn is_blank(stack: &[Claim]) -> bool {
-    for claim in stack {
-        if claim.line != 255 || claim.row != 65535 {
-            return false;
-        }
-    }
-    true
+    stack.iter().all(|claim| *claim == BLANK)
 }

@@ -2,6 +2,7 @@
 //! from its definition. It shares no type and no function with the crates that it is compared with.
 #![tactic(auto)]
 
+pub mod grid;
 pub mod reach;
 pub mod reading;
 pub mod rules;

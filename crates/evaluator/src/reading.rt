@@ -1,7 +1,7 @@
 // Reading a certificate: nodes from the first to the last, with the claims that wait in a list.
 use crate::rules::{Rule, Statement};
-use crate::shapes::{Shape, Side, shape_of};
-use crate::told::{Told, refused};
+use crate::shapes::Shape;
+use crate::told::{Answer, Question, Told};
 use crate::ways::Ways;
 use std::alloc::{AllocError, Global};
 
@@ -22,124 +22,87 @@ struct Node {
     count: usize,
 }
 
-fn node_of(bytes: &[u8]) -> Option<Node> {
-    let [line, rule, row_high, row_low, count_high, count_low] = *bytes else {
-        return None;
-    };
-    Some(Node {
-        line: line as usize,
-        rule: rule as usize,
-        row: row_high as usize * 256 + row_low as usize,
-        count: count_high as usize * 256 + count_low as usize,
-    })
-}
+impl TryFrom<&[u8]> for Node {
+    type Error = Question;
 
-// The line that a side means.
-fn line_of(rule: &Rule, side: Side) -> Option<usize> {
-    match side {
-        Side::Nobody => None,
-        Side::Left => Some(rule.left),
-        Side::Right => Some(rule.right),
+    fn try_from(bytes: &[u8]) -> Result<Node, Question> {
+        let [line, rule, row_high, row_low, count_high, count_low] = *bytes else {
+            return Err(Question::NodesAreWhole);
+        };
+        Ok(Node {
+            line: usize::from(line),
+            rule: usize::from(rule),
+            row: usize::from(u16::from_be_bytes([row_high, row_low])),
+            count: usize::from(u16::from_be_bytes([count_high, count_low])),
+        })
     }
 }
 
 // Whether the children have the lines and rulings of the shape, whatever their rows.
 fn alike(rule: &Rule, shape: Shape, children: &[Statement]) -> bool {
-    let ruling = if rule.kind == crate::rules::Kind::Not {
-        !shape.held
-    } else {
-        shape.held
-    };
-    let mut side = shape.first;
-    for child in children {
-        if line_of(rule, side) != Some(child.line) || child.held != ruling {
-            return false;
-        }
-        side = shape.others;
-    }
-    true
-}
-
-fn same(a: &[Statement], b: &[Statement]) -> bool {
-    if a.len() != b.len() {
-        return false;
-    }
-    for (x, y) in a.iter().zip(b.iter()) {
-        if x != y {
-            return false;
-        }
-    }
-    true
+    let held = shape.children_held();
+    children.iter().enumerate().all(|(number, child)| {
+        let side = if number == 0 {
+            shape.first
+        } else {
+            shape.others
+        };
+        side.is_some_and(|side| rule.child(side, child.row, held) == *child)
+    })
 }
 
 impl Reader<'_> {
     // Whether the node's rule has a way at its place with exactly these children.
     fn listed(&self, node: Node, children: &[Statement]) -> bool {
-        let place = node.line.saturating_mul(self.rows).saturating_add(node.row);
-        for way in self.ways.at(place) {
-            if way.rule == node.rule && same(self.ways.children_of(*way), children) {
-                return true;
-            }
-        }
-        false
+        self.ways.at(node.line, node.row).is_some_and(|ways| {
+            ways.iter().any(|way| way.met
+                && way.rule == node.rule
+                && way.children.as_slice() == children)
+        })
     }
 
-    // The first of the questions 14 to 19 that the node answers no, or what it rules.
-    fn ask(&self, node: Node, waiting: &[Statement]) -> Result<bool, u32> {
-        let Some(rule) = self.rules.get(node.line) else {
-            return Err(14);
-        };
-        let shape = match shape_of(node.rule) {
-            Some(shape) if shape.kind == rule.kind => shape,
-            _ => return Err(15),
-        };
-        if node.row >= self.rows {
-            return Err(16);
-        }
-        if node.count < shape.least || node.count > shape.most || node.count > waiting.len() {
-            return Err(17);
-        }
-        let children = &waiting[waiting.len() - node.count..];
-        if !alike(rule, shape, children) {
-            return Err(18);
-        }
-        if self.listed(node, children) {
-            Ok(shape.held)
-        } else {
-            Err(19)
-        }
+    // The first question of a node that it answers no, or the claim that it makes.
+    fn ask(&self, node: Node, waiting: &[Statement]) -> Result<Statement, Question> {
+        let rule = self.rules.get(node.line).ok_or(Question::NodeHasLine)?;
+        let shape = Shape::of(node.rule)
+            .filter(|shape| shape.kind == rule.kind)
+            .ok_or(Question::RuleIsOfItsKind)?;
+        Question::NodeHasRow.ask(node.row < self.rows)?;
+        let children = waiting
+            .len()
+            .checked_sub(node.count)
+            .filter(|_| shape.takes(node.count))
+            .and_then(|others| waiting.get(others..))
+            .ok_or(Question::CountIsRight)?;
+        Question::ChildrenAreRight.ask(alike(rule, shape, children))?;
+        Question::ConditionIsMet.ask(self.listed(node, children))?;
+        Ok(Statement {
+            line: node.line,
+            row: node.row,
+            held: shape.held,
+        })
     }
 
-    // The nodes one by one; the number of the node is counted from 0.
+    // The nodes one by one, counted from 0. A refusal is told, and want of memory is no answer at all: one error type for both
+    // would need its Froms and a match that parts the two again, which is longer than these.
     fn nodes(&self, heap: Global, certificate: &[u8]) -> Result<Told, AllocError> {
         let mut waiting: Vec<Statement> = Vec::new(heap);
-        let mut number = 0usize;
-        for bytes in certificate.chunks(6) {
-            let Some(node) = node_of(bytes) else {
-                return Ok(refused(11));
+        for (number, bytes) in certificate.chunks(6).enumerate() {
+            let node = match Node::try_from(bytes) {
+                Ok(node) => node,
+                Err(question) => return Ok(Err(question.into())),
             };
             match self.ask(node, waiting.as_slice()) {
-                Err(question) => return Ok(Told::Refused {
-                    question,
-                    node: number,
-                }),
-                Ok(held) => {
+                Ok(claim) => {
                     waiting.truncate(waiting.len().saturating_sub(node.count));
-                    waiting.push(Statement {
-                        line: node.line,
-                        row: node.row,
-                        held,
-                    })?;
+                    waiting.push(claim)?;
                 }
+                Err(question) => return Ok(Err(question.at(number))),
             }
-            number = number.saturating_add(1);
         }
         match *waiting.as_slice() {
-            [claim] => Ok(Told::Proved(claim)),
-            _ => Ok(Told::Refused {
-                question: 20,
-                node: number,
-            }),
+            [claim] => Ok(Ok(Answer::Proved(claim))),
+            _ => Ok(Err(Question::OneIsLeft.at(certificate.len() / 6))),
         }
     }
 
@@ -150,16 +113,16 @@ impl Reader<'_> {
         certificate: &[u8],
         places: usize,
     ) -> Result<Told, AllocError> {
-        let length = certificate.len();
-        if length == 0 || length % 6 != 0 {
-            return Ok(refused(11));
+        match sized(certificate.len(), places) {
+            Ok(()) => self.nodes(heap, certificate),
+            Err(question) => Ok(Err(question.into())),
         }
-        if length > 24576 {
-            return Ok(refused(12));
-        }
-        if length / 6 > places {
-            return Ok(refused(13));
-        }
-        self.nodes(heap, certificate)
     }
+}
+
+// What is asked before a node is read: whole nodes, not too many, and room on the stack.
+fn sized(length: usize, places: usize) -> Result<(), Question> {
+    Question::NodesAreWhole.ask(length != 0 && length % 6 == 0)?;
+    Question::NodesAreFew.ask(length <= 24576)?;
+    Question::StackHasRoom.ask(length / 6 <= places)
 }

@@ -1,142 +1,107 @@
 // The least certificates: the sizes of all ways compared, and the bytes of the one chosen.
 use crate::rules::Statement;
-use crate::shapes::shape_of;
+use crate::shapes::Shape;
 use crate::ways::{Way, Ways};
 use std::alloc::{AllocError, Global};
-
-// The least size of a claim, and the way by which it is reached.
-#[derive(Clone, Copy)]
-pub struct Least {
-    pub nodes: u64,
-    pub way: Way,
-}
+use std::collections::BTreeMap;
 
 // The longest certificate whose bytes are kept.
 const LONGEST: u64 = 4096;
 
-// What is known of every claim, in the order of lines, rows and rulings.
+// The least certificate of a claim: its size, and its bytes if it is not too long.
 #[derive(Drop)]
-pub struct Certificates {
-    pub rows: usize,
-    pub least: Vec<Option<Least>>,
-    pub bytes: Vec<Vec<u8>>,
+struct Certificate {
+    nodes: u64,
+    bytes: Option<Vec<u8>>,
 }
 
-// Where a claim stands among all claims.
-fn number_of(rows: usize, claim: Statement) -> usize {
-    let place = claim.line.saturating_mul(rows).saturating_add(claim.row);
-    let pair = place.saturating_mul(2);
-    if claim.held {
-        pair
-    } else {
-        pair.saturating_add(1)
-    }
+// The certificates of all claims that have one.
+#[derive(Drop)]
+pub struct Certificates {
+    least: BTreeMap<Statement, Certificate>,
 }
 
 impl Certificates {
     // The least size of a claim, if it has a certificate.
     pub fn size(&self, claim: Statement) -> Option<u64> {
-        Some(self.chosen(claim)?.nodes)
+        self.least.get(&claim).map(|certificate| certificate.nodes)
     }
 
-    fn chosen(&self, claim: Statement) -> Option<Least> {
-        *self.least.as_slice().get(number_of(self.rows, claim))?
-    }
-
-    // The bytes of the chosen certificate; none where there is no certificate of at most 4,096 nodes.
-    pub fn bytes(&self, claim: Statement) -> &[u8] {
-        match self.bytes.as_slice().get(number_of(self.rows, claim)) {
-            Some(bytes) => bytes.as_slice(),
-            None => &[],
-        }
+    // The bytes of the chosen certificate, if there is one of at most 4,096 nodes.
+    pub fn bytes(&self, claim: Statement) -> Option<&[u8]> {
+        Some(self.least.get(&claim)?.bytes.as_ref()?.as_slice())
     }
 
     // The size of a way: its node, and the least of each child.
-    fn size_by(&self, children: &[Statement]) -> Option<u64> {
-        let mut nodes = 1u64;
-        for child in children {
-            nodes = nodes.saturating_add(self.size(*child)?);
-        }
-        Some(nodes)
-    }
-
-    // Takes a way that is shorter than what was found so far: among equals the first stays.
-    fn offer(&mut self, ways: &Ways, way: Way, held: bool) {
-        let Some(nodes) = self.size_by(ways.children_of(way)) else {
-            return;
-        };
-        let number = number_of(
-            self.rows,
-            Statement {
-                line: way.line,
-                row: way.row,
-                held,
-            },
-        );
-        let Some(best) = self.least.get_mut(number) else {
-            return;
-        };
-        let shorter = match best {
-            Some(best) => nodes < best.nodes,
-            None => true,
-        };
-        if shorter {
-            *best = Some(Least { nodes, way });
-        }
+    fn size_by(&self, way: &Way) -> Option<u64> {
+        way.children.iter().try_fold(
+            1u64,
+            |nodes, child| Some(nodes.saturating_add(self.size(*child)?)),
+        )
     }
 
     // The bytes of a certificate by a way: the children's, one after another, and the node's own. None if a child has no bytes.
-    pub fn by_way(&self, heap: Global, ways: &Ways, way: Way) -> Result<Vec<u8>, AllocError> {
+    pub fn by_way(
+        &self,
+        heap: Global,
+        line: usize,
+        row: usize,
+        way: &Way,
+    ) -> Result<Option<Vec<u8>>, AllocError> {
         let mut bytes = Vec::new(heap);
-        let children = ways.children_of(way);
-        for child in children {
-            let part = self.bytes(*child);
-            if part.is_empty() {
-                return Ok(Vec::new(heap));
-            }
+        for child in &way.children {
+            let Some(part) = self.bytes(*child) else {
+                return Ok(None);
+            };
             bytes.extend_from_slice(part)?;
         }
-        let count = children.len();
-        bytes.extend_from_slice(&[low(way.line), low(way.rule)])?;
-        bytes.extend_from_slice(&[
-            low(way.row / 256),
-            low(way.row),
-            low(count / 256),
-            low(count),
-        ])?;
-        Ok(bytes)
+        // A node is packed here and nowhere else on this side, so no From stands apart for it.
+        let [.., line] = line.to_be_bytes();
+        let [.., rule] = way.rule.to_be_bytes();
+        let [.., row_high, row_low] = row.to_be_bytes();
+        let [.., count_high, count_low] = way.children.len().to_be_bytes();
+        bytes.extend_from_slice(&[line, rule, row_high, row_low, count_high, count_low])?;
+        Ok(Some(bytes))
     }
-}
 
-// The lowest byte of a number.
-fn low(number: usize) -> u8 {
-    (number & 0xff) as u8
-}
-
-// Compares all ways at every line and row. Children are of earlier lines, whose ways come first.
-pub fn shortest(
-    heap: Global,
-    ways: &Ways,
-    lines: usize,
-    rows: usize,
-) -> Result<Certificates, AllocError> {
-    let claims = lines.saturating_mul(rows).saturating_mul(2);
-    let mut found = Certificates {
-        rows,
-        least: vec![in heap; None; claims]?,
-        bytes: Vec::new(heap),
-    };
-    for way in &ways.list {
-        if let Some(shape) = shape_of(way.rule) {
-            found.offer(ways, *way, shape.held);
-        }
-    }
-    for number in 0..claims {
-        let bytes = match found.least.as_slice().get(number) {
-            Some(Some(least)) if least.nodes <= LONGEST => found.by_way(heap, ways, least.way)?,
-            _ => Vec::new(heap),
+    // Takes the shortest of the ways by which a claim is ruled: among equals the first.
+    fn choose(&mut self, heap: Global, claim: Statement, ways: &[Way]) -> Result<(), AllocError> {
+        let least = ways
+            .iter()
+            .filter(|way| way.met && Shape::of(way.rule).is_some_and(|s| s.held == claim.held))
+            .filter_map(|way| self.size_by(way).map(|nodes| (nodes, way)))
+            .min_by_key(|(nodes, _)| *nodes);
+        let Some((nodes, way)) = least else {
+            return Ok(());
         };
-        found.bytes.push(bytes)?;
+        let bytes = if nodes <= LONGEST {
+            self.by_way(heap, claim.line, claim.row, way)?
+        } else {
+            None
+        };
+        self.least.insert(claim, Certificate { nodes, bytes })?;
+        Ok(())
     }
-    Ok(found)
+
+    // Compares all ways at every line and row. Children are of earlier lines, whose ways come first.
+    pub fn of(
+        heap: Global,
+        ways: &Ways,
+        lines: usize,
+        rows: usize,
+    ) -> Result<Certificates, AllocError> {
+        let mut found = Certificates {
+            least: BTreeMap::new(heap),
+        };
+        for line in 0..lines {
+            for row in 0..rows {
+                if let Some(ways) = ways.at(line, row) {
+                    for held in [true, false] {
+                        found.choose(heap, Statement { line, row, held }, ways.as_slice())?;
+                    }
+                }
+            }
+        }
+        Ok(found)
+    }
 }

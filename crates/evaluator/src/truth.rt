@@ -1,137 +1,122 @@
 // Truth at a row of a continuation, straight from its definition. `None` says that the rows given do not go on for long enough.
 use crate::rules::{Kind, Moment, Rule, gap};
 
+// A table, and the rows of a log with those that come after them.
+#[derive(Clone, Copy)]
+pub struct Course<'a> {
+    pub rules: &'a [Rule],
+    pub rows: &'a [Moment],
+}
+
 fn not(a: Option<bool>) -> Option<bool> {
-    match a {
-        Some(a) => Some(!a),
-        None => None,
-    }
+    a.map(|a| !a)
 }
 
 fn both(a: Option<bool>, b: Option<bool>) -> Option<bool> {
-    match (a, b) {
-        (Some(a), Some(b)) => Some(a && b),
-        _ => None,
-    }
+    a.zip(b).map(|(a, b)| a && b)
 }
 
-// Whether the time from one row to another is inside the rule's window.
-fn inside(rule: &Rule, rows: &[Moment], early: usize, late: usize) -> Option<bool> {
-    match gap(rows, early, late) {
-        Some(gap) => Some(rule.admits(gap)),
-        None => None,
+impl Course<'_> {
+    // Whether the time from one row to another is inside the rule's window.
+    fn inside(self, rule: &Rule, early: usize, late: usize) -> Option<bool> {
+        gap(self.rows, early, late).map(|gap| rule.admits(gap))
     }
-}
 
-fn marked(rows: &[Moment], row: usize, mark: usize) -> Option<bool> {
-    match rows.get(row) {
-        Some(row) => Some(row.has(mark)),
-        None => None,
+    fn marked(self, row: usize, mark: usize) -> Option<bool> {
+        self.rows.get(row).map(|row| row.has(mark))
     }
-}
 
-// Whether a line is true at a row.
-#[cycle(operand_since_throughout_truth_until)]
-pub fn truth(rules: &[Rule], rows: &[Moment], line: usize, row: usize) -> Option<bool> {
-    let rule = *rules.get(line)?;
-    let (left, right) = (rule.left, rule.right);
-    match rule.kind {
-        Kind::Mark => marked(rows, row, left),
-        Kind::Not => not(operand(rules, rows, left, line, row)),
-        Kind::And => {
-            both(
-                operand(rules, rows, left, line, row),
-                operand(rules, rows, right, line, row),
-            )
-        }
-        Kind::Or => not(both(
-            not(operand(rules, rows, left, line, row)),
-            not(operand(rules, rows, right, line, row)),
-        )),
-        Kind::Previous => match row.checked_sub(1) {
-            Some(before) => {
+    // Whether a line is true at a row.
+    #[cycle(operand_since_throughout_truth_until)]
+    pub fn truth(self, line: usize, row: usize) -> Option<bool> {
+        let rule = *self.rules.get(line)?;
+        let (left, right) = (rule.left, rule.right);
+        match rule.kind {
+            Kind::Mark => self.marked(row, left),
+            Kind::Not => not(self.operand(left, line, row)),
+            Kind::And => {
                 both(
-                    inside(&rule, rows, before, row),
-                    operand(rules, rows, left, line, before),
+                    self.operand(left, line, row),
+                    self.operand(right, line, row),
                 )
             }
-            None => Some(false),
-        },
-        Kind::Next => {
-            let after = row.saturating_add(1);
-            both(
-                inside(&rule, rows, row, after),
-                operand(rules, rows, left, line, after),
-            )
+            Kind::Or => not(both(
+                not(self.operand(left, line, row)),
+                not(self.operand(right, line, row)),
+            )),
+            Kind::Previous => match row.checked_sub(1) {
+                Some(before) => {
+                    both(
+                        self.inside(&rule, before, row),
+                        self.operand(left, line, before),
+                    )
+                }
+                None => Some(false),
+            },
+            Kind::Next => {
+                let after = row.saturating_add(1);
+                both(
+                    self.inside(&rule, row, after),
+                    self.operand(left, line, after),
+                )
+            }
+            Kind::Since => self.since(line, row),
+            Kind::Until => self.until(line, row),
         }
-        Kind::Since => since(rules, rows, line, row),
-        Kind::Until => until(rules, rows, line, row),
     }
-}
 
-// Whether an operand of a line is true at a row. Operands are earlier lines.
-#[cycle(operand_since_throughout_truth_until)]
-fn operand(
-    rules: &[Rule],
-    rows: &[Moment],
-    operand: usize,
-    line: usize,
-    row: usize,
-) -> Option<bool> {
-    if operand < line {
-        truth(rules, rows, operand, row)
-    } else {
+    // Whether an operand of a line is true at a row. Operands are earlier lines.
+    #[cycle(operand_since_throughout_truth_until)]
+    fn operand(self, operand: usize, line: usize, row: usize) -> Option<bool> {
+        if operand < line {
+            self.truth(operand, row)
+        } else {
+            None
+        }
+    }
+
+    // Whether an operand is true at every row from the first to the one before the last.
+    // A loop, as in the two below: each turn may end it as unknown, and a closure may call nothing of this cycle.
+    #[cycle(operand_since_throughout_truth_until)]
+    fn throughout(self, operand: usize, line: usize, first: usize, last: usize) -> Option<bool> {
+        for k in first..last {
+            if !self.operand(operand, line, k)? {
+                return Some(false);
+            }
+        }
+        Some(true)
+    }
+
+    // Right is true at some j up to the row, inside the window, and left at every later row up to this one.
+    #[cycle(operand_since_throughout_truth_until)]
+    fn since(self, line: usize, row: usize) -> Option<bool> {
+        let rule = *self.rules.get(line)?;
+        for j in 0..=row {
+            if self.inside(&rule, j, row)? && self.operand(rule.right, line, j)? {
+                let after = row.saturating_add(1);
+                if self.throughout(rule.left, line, j.saturating_add(1), after)? {
+                    return Some(true);
+                }
+            }
+        }
+        Some(false)
+    }
+
+    // Right is true at some j from the row on, inside the window, and left at every row before j from this one on.
+    #[cycle(operand_since_throughout_truth_until)]
+    fn until(self, line: usize, row: usize) -> Option<bool> {
+        let rule = *self.rules.get(line)?;
+        for j in row..self.rows.len() {
+            if !rule.ends_after(gap(self.rows, row, j)?) {
+                return Some(false);
+            }
+            if self.inside(&rule, row, j)?
+                && self.operand(rule.right, line, j)?
+                && self.throughout(rule.left, line, row, j)?
+            {
+                return Some(true);
+            }
+        }
         None
     }
-}
-
-// Whether an operand is true at every row from the first to the one before the last.
-#[cycle(operand_since_throughout_truth_until)]
-fn throughout(
-    rules: &[Rule],
-    rows: &[Moment],
-    side: usize,
-    line: usize,
-    first: usize,
-    last: usize,
-) -> Option<bool> {
-    for k in first..last {
-        let here = operand(rules, rows, side, line, k);
-        if here != Some(true) {
-            return here;
-        }
-    }
-    Some(true)
-}
-
-// Right is true at some j up to the row, inside the window, and left at every later row up to this one.
-#[cycle(operand_since_throughout_truth_until)]
-fn since(rules: &[Rule], rows: &[Moment], line: usize, row: usize) -> Option<bool> {
-    let rule = *rules.get(line)?;
-    for j in 0..=row {
-        if inside(&rule, rows, j, row)? && operand(rules, rows, rule.right, line, j)? {
-            let after = row.saturating_add(1);
-            if throughout(rules, rows, rule.left, line, j.saturating_add(1), after)? {
-                return Some(true);
-            }
-        }
-    }
-    Some(false)
-}
-
-// Right is true at some j from the row on, inside the window, and left at every row before j from this one on.
-#[cycle(operand_since_throughout_truth_until)]
-fn until(rules: &[Rule], rows: &[Moment], line: usize, row: usize) -> Option<bool> {
-    let rule = *rules.get(line)?;
-    for j in row..rows.len() {
-        if !rule.ends_after(gap(rows, row, j)?) {
-            return Some(false);
-        }
-        if inside(&rule, rows, row, j)? && operand(rules, rows, rule.right, line, j)? {
-            if throughout(rules, rows, rule.left, line, row, j)? {
-                return Some(true);
-            }
-        }
-    }
-    None
 }

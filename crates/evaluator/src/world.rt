@@ -1,9 +1,9 @@
 // A table and rows with everything that the evaluator finds out about them.
-use crate::reach::{Reach, reach_of};
+use crate::reach::Reach;
 use crate::reading::Reader;
 use crate::rules::{Moment, Rule, Statement};
-use crate::shortest::{Certificates, shortest};
-use crate::told::{Told, refused};
+use crate::shortest::Certificates;
+use crate::told::{Answer, Question, Told};
 use crate::ways::{Ways, list_ways};
 use std::alloc::{AllocError, Global};
 
@@ -19,14 +19,14 @@ pub struct World {
 impl World {
     // Finds out everything about a table and rows.
     pub fn of(heap: Global, rules: &[Rule], rows: &[Moment]) -> Result<World, AllocError> {
-        let ways = list_ways(heap, rules, rows, false)?;
-        let certificates = shortest(heap, &ways, rules.len(), rows.len())?;
+        let ways = list_ways(heap, rules, rows)?;
+        let certificates = Certificates::of(heap, &ways, rules.len(), rows.len())?;
         Ok(World {
             rules: Vec::from_slice(heap, rules)?,
             rows: Vec::from_slice(heap, rows)?,
             ways,
             certificates,
-            reach: reach_of(heap, rules, rows)?,
+            reach: Reach::of(heap, rules, rows)?,
         })
     }
 
@@ -47,30 +47,16 @@ impl World {
 
     // What Settle is to tell, with so many cells in each work buffer and so many bytes of output.
     pub fn settle(&self, line: usize, row: usize, cells: usize, room: usize) -> Told {
-        if line >= self.rules.len() {
-            return refused(21);
-        }
-        if row >= self.rows.len() {
-            return refused(22);
-        }
-        if cells < 8192 {
-            return refused(23);
-        }
-        for held in [true, false] {
-            if let Some(nodes) = self.certificates.size(Statement { line, row, held }) {
-                return answer(held, nodes, room);
-            }
-        }
-        refused(24)
-    }
-}
-
-fn answer(held: bool, nodes: u64, room: usize) -> Told {
-    if nodes > 4096 {
-        refused(25)
-    } else if (room as u64) < nodes * 6 {
-        refused(26)
-    } else {
-        Told::Ruled { held, nodes }
+        Question::LineIsThere.ask(line < self.rules.len())?;
+        Question::RowIsThere.ask(row < self.rows.len())?;
+        Question::CellsAreEnough.ask(cells >= 8192)?;
+        let size = |held| self.certificates.size(Statement { line, row, held });
+        let (held, nodes) = size(true)
+            .map(|nodes| (true, nodes))
+            .or(size(false).map(|nodes| (false, nodes)))
+            .ok_or(Question::IsRuled)?;
+        Question::SizeIsSmall.ask(nodes <= 4096)?;
+        Question::OutputHasRoom.ask(nodes.saturating_mul(6) <= room as u64)?;
+        Ok(Answer::Ruled { held, nodes })
     }
 }

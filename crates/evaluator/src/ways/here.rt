@@ -1,89 +1,66 @@
 // The ways of the kinds that look at one row: their own, the one before or the one after.
-use crate::rules::gap;
-use crate::ways::{Spot, Ways};
+use crate::rules::{Side, gap};
+use crate::ways::Spot;
 use std::alloc::AllocError;
 
-pub(crate) fn mark(ways: &mut Ways, spot: Spot<'_>) -> Result<(), AllocError> {
-    let Some(row) = spot.rows.get(spot.row) else {
-        return Ok(());
-    };
-    let stands = row.has(spot.rule.left);
-    if spot.lax || stands {
-        ways.way(spot, 1)?;
+impl Spot<'_> {
+    pub(crate) fn mark(&mut self) -> Result<(), AllocError> {
+        let (row, mark) = (self.row, self.rule.left);
+        let stands = self.rows.get(row).is_some_and(|row| row.has(mark));
+        self.leaf(1, stands)?;
+        self.leaf(2, !stands)
     }
-    if spot.lax || !stands {
-        ways.way(spot, 2)?;
+
+    pub(crate) fn not(&mut self) -> Result<(), AllocError> {
+        let (rule, row) = (self.rule, self.row);
+        let left = |held| rule.child(Side::Left, row, held);
+        self.over(3, &[left(false)])?;
+        self.over(4, &[left(true)])
     }
-    Ok(())
-}
 
-pub(crate) fn not(ways: &mut Ways, spot: Spot<'_>) -> Result<(), AllocError> {
-    ways.child(spot.rule.left, spot.row, false)?;
-    ways.way(spot, 3)?;
-    ways.child(spot.rule.left, spot.row, true)?;
-    ways.way(spot, 4)
-}
-
-pub(crate) fn and(ways: &mut Ways, spot: Spot<'_>) -> Result<(), AllocError> {
-    ways.child(spot.rule.left, spot.row, true)?;
-    ways.child(spot.rule.right, spot.row, true)?;
-    ways.way(spot, 5)?;
-    ways.child(spot.rule.left, spot.row, false)?;
-    ways.way(spot, 6)?;
-    ways.child(spot.rule.right, spot.row, false)?;
-    ways.way(spot, 7)
-}
-
-pub(crate) fn or(ways: &mut Ways, spot: Spot<'_>) -> Result<(), AllocError> {
-    ways.child(spot.rule.left, spot.row, true)?;
-    ways.way(spot, 8)?;
-    ways.child(spot.rule.right, spot.row, true)?;
-    ways.way(spot, 9)?;
-    ways.child(spot.rule.left, spot.row, false)?;
-    ways.child(spot.rule.right, spot.row, false)?;
-    ways.way(spot, 10)
-}
-
-// The ways from a neighbour's row: held inside the window, broken, broken before the window and broken after it.
-fn neighbour(
-    ways: &mut Ways,
-    spot: Spot<'_>,
-    row: usize,
-    gap: u64,
-    rules: [usize; 4],
-) -> Result<(), AllocError> {
-    let [held, broken, early, late] = rules;
-    if spot.lax || spot.rule.admits(gap) {
-        ways.child(spot.rule.left, row, true)?;
-        ways.way(spot, held)?;
+    pub(crate) fn and(&mut self) -> Result<(), AllocError> {
+        let (rule, row) = (self.rule, self.row);
+        let left = |held| rule.child(Side::Left, row, held);
+        let right = |held| rule.child(Side::Right, row, held);
+        self.over(5, &[left(true), right(true)])?;
+        self.over(6, &[left(false)])?;
+        self.over(7, &[right(false)])
     }
-    ways.child(spot.rule.left, row, false)?;
-    ways.way(spot, broken)?;
-    if spot.lax || gap < spot.rule.from {
-        ways.way(spot, early)?;
-    }
-    if spot.lax || !spot.rule.ends_after(gap) {
-        ways.way(spot, late)?;
-    }
-    Ok(())
-}
 
-pub(crate) fn previous(ways: &mut Ways, spot: Spot<'_>) -> Result<(), AllocError> {
-    if let Some(before) = spot.row.checked_sub(1) {
-        if let Some(gap) = gap(spot.rows, before, spot.row) {
-            neighbour(ways, spot, before, gap, [11, 12, 13, 14])?;
+    pub(crate) fn or(&mut self) -> Result<(), AllocError> {
+        let (rule, row) = (self.rule, self.row);
+        let left = |held| rule.child(Side::Left, row, held);
+        let right = |held| rule.child(Side::Right, row, held);
+        self.over(8, &[left(true)])?;
+        self.over(9, &[right(true)])?;
+        self.over(10, &[left(false), right(false)])
+    }
+
+    // The ways from a neighbour's row: held inside the window, broken, broken before the window and broken after it.
+    fn neighbour(&mut self, row: usize, gap: u64, numbers: [usize; 4]) -> Result<(), AllocError> {
+        let [held, broken, early, late] = numbers;
+        let rule = self.rule;
+        let left = rule.child(Side::Left, row, true);
+        self.way(held, rule.admits(gap), vec![in self.heap; left]?)?;
+        self.over(broken, &[rule.child(Side::Left, row, false)])?;
+        self.leaf(early, gap < rule.from)?;
+        self.leaf(late, !rule.ends_after(gap))
+    }
+
+    pub(crate) fn previous(&mut self) -> Result<(), AllocError> {
+        if let Some(before) = self.row.checked_sub(1)
+            && let Some(gap) = gap(self.rows, before, self.row)
+        {
+            self.neighbour(before, gap, [11, 12, 13, 14])?;
         }
+        self.leaf(15, self.row == 0)
     }
-    if spot.lax || spot.row == 0 {
-        ways.way(spot, 15)?;
-    }
-    Ok(())
-}
 
-pub(crate) fn next(ways: &mut Ways, spot: Spot<'_>) -> Result<(), AllocError> {
-    let after = spot.row.saturating_add(1);
-    match gap(spot.rows, spot.row, after) {
-        Some(gap) => neighbour(ways, spot, after, gap, [16, 17, 18, 19]),
-        None => Ok(()),
+    pub(crate) fn next(&mut self) -> Result<(), AllocError> {
+        let after = self.row.saturating_add(1);
+        match gap(self.rows, self.row, after) {
+            Some(gap) => self.neighbour(after, gap, [16, 17, 18, 19]),
+            None => Ok(()),
+        }
     }
 }

@@ -1,156 +1,90 @@
-// The ways of since and until: for each j the children by a filter over all rows.
-use crate::rules::gap;
-use crate::ways::{Spot, Ways};
+// The ways of since, over the rows up to the spot's, and of until, over the rows from there on.
+use crate::rules::{Side, gap};
+use crate::ways::Spot;
 use std::alloc::AllocError;
+use std::iter::once;
+use std::ops::Range;
 
-// Whether an earlier row's distance to the spot is at least `from`.
-fn old_enough(spot: Spot<'_>, row: usize) -> bool {
-    match gap(spot.rows, row, spot.row) {
-        Some(gap) => spot.rule.from <= gap,
-        None => false,
+impl Spot<'_> {
+    // How far a row is from the spot's, before or after it.
+    fn distance(&self, row: usize) -> Option<u64> {
+        gap(self.rows, row.min(self.row), row.max(self.row))
     }
-}
 
-// Whether an earlier row's distance to the spot is at most `to`.
-fn not_too_old(spot: Spot<'_>, row: usize) -> bool {
-    match gap(spot.rows, row, spot.row) {
-        Some(gap) => spot.rule.ends_after(gap),
-        None => false,
+    // Whether a row is at least as far off as the window's start.
+    fn far_enough(&self, row: usize) -> bool {
+        self.distance(row)
+            .is_some_and(|distance| self.rule.from <= distance)
     }
-}
 
-// Whether the spot's distance to a later row is at least `from`.
-fn late_enough(spot: Spot<'_>, row: usize) -> bool {
-    match gap(spot.rows, spot.row, row) {
-        Some(gap) => spot.rule.from <= gap,
-        None => false,
+    // Whether a row is no further off than the window's end.
+    fn near_enough(&self, row: usize) -> bool {
+        self.distance(row)
+            .is_some_and(|distance| self.rule.ends_after(distance))
     }
-}
 
-// Whether the spot's distance to a later row is at most `to`.
-fn not_too_late(spot: Spot<'_>, row: usize) -> bool {
-    match gap(spot.rows, spot.row, row) {
-        Some(gap) => spot.rule.ends_after(gap),
-        None => false,
+    fn inside(&self, row: usize) -> bool {
+        self.far_enough(row) && self.near_enough(row)
     }
-}
 
-// Rule 20 by j: right held at j, left held at each later row up to the spot's.
-fn since_held(ways: &mut Ways, spot: Spot<'_>, j: usize) -> Result<(), AllocError> {
-    ways.child(spot.rule.right, j, true)?;
-    for k in 0..spot.rows.len() {
-        if j < k && k <= spot.row {
-            ways.child(spot.rule.left, k, true)?;
+    // Rules 20 and 24 by j: right held at j, left held at each of the rows between.
+    fn held(&mut self, rule: usize, j: usize, between: Range<usize>) -> Result<(), AllocError> {
+        let children = once(self.rule.child(Side::Right, j, true))
+            .chain(between.map(|k| self.rule.child(Side::Left, k, true)))
+            .collect(self.heap)?;
+        self.way(rule, self.inside(j), children)
+    }
+
+    // Rules 21 and 25 by j: left broken at j, right broken at each of the rows that is far enough.
+    fn cut(
+        &mut self,
+        rule: usize,
+        met: bool,
+        j: usize,
+        rows: Range<usize>,
+    ) -> Result<(), AllocError> {
+        let broken = rows
+            .filter(|k| self.far_enough(*k))
+            .map(|k| self.rule.child(Side::Right, k, false));
+        let children = once(self.rule.child(Side::Left, j, false))
+            .chain(broken)
+            .collect(self.heap)?;
+        self.way(rule, met, children)
+    }
+
+    // Rules 22 and 26: right broken at each of the rows that is inside the window.
+    fn never(&mut self, rule: usize, met: bool, rows: Range<usize>) -> Result<(), AllocError> {
+        let children = rows
+            .filter(|k| self.inside(*k))
+            .map(|k| self.rule.child(Side::Right, k, false))
+            .collect(self.heap)?;
+        self.way(rule, met, children)
+    }
+
+    pub(crate) fn since(&mut self) -> Result<(), AllocError> {
+        let after = self.row.saturating_add(1);
+        for j in 0..after {
+            self.held(20, j, j.saturating_add(1)..after)?;
         }
-    }
-    ways.way(spot, 20)
-}
-
-// Rule 21 by j: left broken at j, right broken at each row from j to the spot's that is old enough.
-fn since_cut(ways: &mut Ways, spot: Spot<'_>, j: usize) -> Result<(), AllocError> {
-    ways.child(spot.rule.left, j, false)?;
-    for k in 0..spot.rows.len() {
-        if j <= k && k <= spot.row && old_enough(spot, k) {
-            ways.child(spot.rule.right, k, false)?;
+        // A cut needs a row that is far enough, and a row before it that is not past the window's end.
+        let begun = self.far_enough(0);
+        self.cut(21, false, 0, 0..after)?;
+        for j in 1..after {
+            self.cut(21, begun && self.near_enough(j - 1), j, j..after)?;
         }
+        self.never(22, begun, 0..after)?;
+        self.leaf(23, !begun)
     }
-    ways.way(spot, 21)
-}
 
-// Rule 22: right broken at each row of the window.
-fn since_never(ways: &mut Ways, spot: Spot<'_>) -> Result<(), AllocError> {
-    for k in 0..spot.rows.len() {
-        if k <= spot.row && old_enough(spot, k) && not_too_old(spot, k) {
-            ways.child(spot.rule.right, k, false)?;
+    pub(crate) fn until(&mut self) -> Result<(), AllocError> {
+        let (row, end) = (self.row, self.rows.len());
+        for j in row..end {
+            self.held(24, j, row..j)?;
         }
-    }
-    ways.way(spot, 22)
-}
-
-// Rule 21 by every j; the row before j is not past the window's end.
-fn since_cuts(ways: &mut Ways, spot: Spot<'_>) -> Result<(), AllocError> {
-    if spot.lax {
-        since_cut(ways, spot, 0)?;
-    }
-    for before in 0..spot.row {
-        if spot.lax || not_too_old(spot, before) {
-            since_cut(ways, spot, before + 1)?;
+        for j in row..end {
+            self.cut(25, self.near_enough(j), j, row..j.saturating_add(1))?;
         }
+        // A later row has to close the window.
+        self.never(26, !self.near_enough(end.saturating_sub(1)), row..end)
     }
-    Ok(())
-}
-
-pub(crate) fn since(ways: &mut Ways, spot: Spot<'_>) -> Result<(), AllocError> {
-    for j in 0..spot.rows.len() {
-        let inside = old_enough(spot, j) && not_too_old(spot, j);
-        if j <= spot.row && (spot.lax || inside) {
-            since_held(ways, spot, j)?;
-        }
-    }
-    let begun = old_enough(spot, 0);
-    if spot.lax || begun {
-        since_cuts(ways, spot)?;
-        since_never(ways, spot)?;
-    }
-    if spot.lax || !begun {
-        ways.way(spot, 23)?;
-    }
-    Ok(())
-}
-
-// Rule 24 by j: right held at j, left held at each row from the spot's to the one before j.
-fn until_held(ways: &mut Ways, spot: Spot<'_>, j: usize) -> Result<(), AllocError> {
-    ways.child(spot.rule.right, j, true)?;
-    for k in 0..spot.rows.len() {
-        if spot.row <= k && k < j {
-            ways.child(spot.rule.left, k, true)?;
-        }
-    }
-    ways.way(spot, 24)
-}
-
-// Rule 25 by j: left broken at j, right broken at each row up to j that is late enough.
-fn until_cut(ways: &mut Ways, spot: Spot<'_>, j: usize) -> Result<(), AllocError> {
-    ways.child(spot.rule.left, j, false)?;
-    for k in 0..spot.rows.len() {
-        if spot.row <= k && k <= j && late_enough(spot, k) {
-            ways.child(spot.rule.right, k, false)?;
-        }
-    }
-    ways.way(spot, 25)
-}
-
-// Rule 26: right broken at each row of the window, which a later row closes.
-fn until_never(ways: &mut Ways, spot: Spot<'_>) -> Result<(), AllocError> {
-    for k in 0..spot.rows.len() {
-        if spot.row <= k && late_enough(spot, k) && not_too_late(spot, k) {
-            ways.child(spot.rule.right, k, false)?;
-        }
-    }
-    ways.way(spot, 26)
-}
-
-// Rule 25 by every j that is not past the window's end.
-fn until_cuts(ways: &mut Ways, spot: Spot<'_>) -> Result<(), AllocError> {
-    for j in spot.row..spot.rows.len() {
-        if spot.lax || not_too_late(spot, j) {
-            until_cut(ways, spot, j)?;
-        }
-    }
-    Ok(())
-}
-
-pub(crate) fn until(ways: &mut Ways, spot: Spot<'_>) -> Result<(), AllocError> {
-    for j in spot.row..spot.rows.len() {
-        let inside = late_enough(spot, j) && not_too_late(spot, j);
-        if spot.lax || inside {
-            until_held(ways, spot, j)?;
-        }
-    }
-    until_cuts(ways, spot)?;
-    let last = spot.rows.len().saturating_sub(1);
-    if spot.lax || !not_too_late(spot, last) {
-        until_never(ways, spot)?;
-    }
-    Ok(())
 }

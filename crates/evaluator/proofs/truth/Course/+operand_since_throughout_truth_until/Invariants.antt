@@ -1,5 +1,5 @@
 use Rattle.std.proofs.Common.{◌+◌, ◌*◌}
-use Rattle.evaluator.proofs.truth.+operand_since_throughout_truth_until.Given as goal
+use Rattle.evaluator.proofs.truth.Course.+operand_since_throughout_truth_until.Given as goal
 
 abbrev pub decreases-truth : goal.decreases-truth
 decreases-truth l = 4 * l.line + 3
