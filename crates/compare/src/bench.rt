@@ -7,6 +7,7 @@ use comparison::library::{rows_of, table_of, told, told_checked};
 use comparison::tally::Place;
 use comparison::work::Work;
 use evaluator::told::Told;
+use evaluator::ways::{Ways, list_ways};
 use evaluator::world::World;
 use logs::any_log::add_all;
 use logs::changes::ChangeLog;
@@ -23,6 +24,8 @@ pub(crate) struct Bench<'a> {
     pub(crate) heap: Global,
     trial: u32,
     pub(crate) world: World,
+    // All ways, those whose condition is not met too.
+    pub(crate) near: Ways,
     pub(crate) futures: Futures,
     table: Table,
     pub(crate) masks: MaskLog,
@@ -50,6 +53,7 @@ impl<'a> Bench<'a> {
             heap,
             trial,
             world: World::of(heap, rules, moments)?,
+            near: list_ways(heap, rules, moments, true)?,
             futures: Futures::of(heap, dice, rules, moments, 3)?,
             table: table_of(rules),
             masks,

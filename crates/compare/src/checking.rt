@@ -215,11 +215,11 @@ impl Checking {
     }
 
     // Certificates by ways whose condition may fail, over right children.
-    fn near(&mut self, bench: &Bench<'_>, line: usize, row: usize) -> Result<(), AllocError> {
-        let world = &bench.world;
-        self.place = bench.place(line, row);
-        for way in world.ways.at(line, row).into_iter().flatten() {
-            let bytes = world.certificates.by_way(bench.heap, line, row, way)?;
+    fn near(&mut self, bench: &Bench<'_>) -> Result<(), AllocError> {
+        for way in &bench.near.list {
+            self.place = bench.place(way.line, way.row);
+            let certificates = &bench.world.certificates;
+            let bytes = certificates.by_way(bench.heap, &bench.near, *way)?;
             if let Some(bytes) = bytes.filter(|bytes| bytes.len() < 3000) {
                 self.changed(bench, bytes.as_slice())?;
             }
@@ -232,11 +232,6 @@ impl Checking {
         for line in 0..bench.world.rules.len() {
             self.line(bench, line)?;
         }
-        for line in 0..bench.world.rules.len() {
-            for row in 0..bench.world.rows.len() {
-                self.near(bench, line, row)?;
-            }
-        }
-        Ok(())
+        self.near(bench)
     }
 }

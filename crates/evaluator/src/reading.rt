@@ -54,11 +54,9 @@ fn alike(rule: &Rule, shape: Shape, children: &[Statement]) -> bool {
 impl Reader<'_> {
     // Whether the node's rule has a way at its place with exactly these children.
     fn listed(&self, node: Node, children: &[Statement]) -> bool {
-        self.ways.at(node.line, node.row).is_some_and(|ways| {
-            ways.iter().any(|way| way.met
-                && way.rule == node.rule
-                && way.children.as_slice() == children)
-        })
+        let place = node.line.saturating_mul(self.rows).saturating_add(node.row);
+        self.ways.at(place).iter().any(|way| way.rule == node.rule
+            && self.ways.children_of(*way) == children)
     }
 
     // The first question of a node that it answers no, or the claim that it makes.

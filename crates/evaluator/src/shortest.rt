@@ -3,38 +3,51 @@ use crate::rules::Statement;
 use crate::shapes::Shape;
 use crate::ways::{Way, Ways};
 use std::alloc::{AllocError, Global};
-use std::collections::BTreeMap;
+
+// The least size of a claim, and the way by which it is reached.
+#[derive(Clone, Copy)]
+pub struct Least {
+    pub nodes: u64,
+    pub way: Way,
+}
 
 // The longest certificate whose bytes are kept.
 const LONGEST: u64 = 4096;
 
-// The least certificate of a claim: its size, and its bytes if it is not too long.
-#[derive(Drop)]
-struct Certificate {
-    nodes: u64,
-    bytes: Option<Vec<u8>>,
-}
-
-// The certificates of all claims that have one.
+// What is known of every claim, in the order of lines, rows and rulings: so a claim's place in both lists is worked out, not looked for.
+// The bytes are empty where there is no certificate, or one that is too long.
 #[derive(Drop)]
 pub struct Certificates {
-    least: BTreeMap<Statement, Certificate>,
+    pub rows: usize,
+    pub least: Vec<Option<Least>>,
+    pub bytes: Vec<Vec<u8>>,
 }
 
 impl Certificates {
+    // Where a claim stands among all claims: held before not held.
+    fn number_of(&self, claim: Statement) -> Option<usize> {
+        if claim.row >= self.rows {
+            return None;
+        }
+        let place = claim.line.checked_mul(self.rows)?.checked_add(claim.row)?;
+        place.checked_mul(2)?.checked_add(usize::from(!claim.held))
+    }
+
     // The least size of a claim, if it has a certificate.
     pub fn size(&self, claim: Statement) -> Option<u64> {
-        self.least.get(&claim).map(|certificate| certificate.nodes)
+        let least = *self.least.get(self.number_of(claim)?)?;
+        least.map(|least| least.nodes)
     }
 
     // The bytes of the chosen certificate, if there is one of at most 4,096 nodes.
     pub fn bytes(&self, claim: Statement) -> Option<&[u8]> {
-        Some(self.least.get(&claim)?.bytes.as_ref()?.as_slice())
+        let bytes = self.bytes.get(self.number_of(claim)?)?.as_slice();
+        Some(bytes).filter(|bytes| !bytes.is_empty())
     }
 
     // The size of a way: its node, and the least of each child.
-    fn size_by(&self, way: &Way) -> Option<u64> {
-        way.children.iter().try_fold(
+    fn size_by(&self, children: &[Statement]) -> Option<u64> {
+        children.iter().try_fold(
             1u64,
             |nodes, child| Some(nodes.saturating_add(self.size(*child)?)),
         )
@@ -44,42 +57,47 @@ impl Certificates {
     pub fn by_way(
         &self,
         heap: Global,
-        line: usize,
-        row: usize,
-        way: &Way,
+        ways: &Ways,
+        way: Way,
     ) -> Result<Option<Vec<u8>>, AllocError> {
         let mut bytes = Vec::new(heap);
-        for child in &way.children {
+        let children = ways.children_of(way);
+        for child in children {
             let Some(part) = self.bytes(*child) else {
                 return Ok(None);
             };
             bytes.extend_from_slice(part)?;
         }
         // A node is packed here and nowhere else on this side, so no From stands apart for it.
-        let [.., line] = line.to_be_bytes();
+        let [.., line] = way.line.to_be_bytes();
         let [.., rule] = way.rule.to_be_bytes();
-        let [.., row_high, row_low] = row.to_be_bytes();
-        let [.., count_high, count_low] = way.children.len().to_be_bytes();
+        let [.., row_high, row_low] = way.row.to_be_bytes();
+        let [.., count_high, count_low] = children.len().to_be_bytes();
         bytes.extend_from_slice(&[line, rule, row_high, row_low, count_high, count_low])?;
         Ok(Some(bytes))
     }
 
-    // Takes the shortest of the ways by which a claim is ruled: among equals the first.
-    fn choose(&mut self, heap: Global, claim: Statement, ways: &[Way]) -> Result<(), AllocError> {
-        let least = ways
+    // The shortest of a place's ways by which it is ruled held, or not held: among equals the first.
+    fn choose(&self, ways: &Ways, place: usize, held: bool) -> Option<Least> {
+        let sized = |way: &Way| {
+            let nodes = self.size_by(ways.children_of(*way))?;
+            Some(Least { nodes, way: *way })
+        };
+        ways.at(place)
             .iter()
-            .filter(|way| way.met && Shape::of(way.rule).is_some_and(|s| s.held == claim.held))
-            .filter_map(|way| self.size_by(way).map(|nodes| (nodes, way)))
-            .min_by_key(|(nodes, _)| *nodes);
-        let Some((nodes, way)) = least else {
-            return Ok(());
+            .filter(|way| Shape::of(way.rule).is_some_and(|shape| shape.held == held))
+            .filter_map(sized)
+            .min_by_key(|least| least.nodes)
+    }
+
+    // Takes what was chosen for the next claim, with its bytes if they are not too many.
+    fn push(&mut self, heap: Global, ways: &Ways, least: Option<Least>) -> Result<(), AllocError> {
+        let bytes = match least {
+            Some(least) if least.nodes <= LONGEST => self.by_way(heap, ways, least.way)?,
+            _ => None,
         };
-        let bytes = if nodes <= LONGEST {
-            self.by_way(heap, claim.line, claim.row, way)?
-        } else {
-            None
-        };
-        self.least.insert(claim, Certificate { nodes, bytes })?;
+        self.least.push(least)?;
+        self.bytes.push(bytes.unwrap_or(Vec::new(heap)))?;
         Ok(())
     }
 
@@ -91,15 +109,14 @@ impl Certificates {
         rows: usize,
     ) -> Result<Certificates, AllocError> {
         let mut found = Certificates {
-            least: BTreeMap::new(heap),
+            rows,
+            least: Vec::new(heap),
+            bytes: Vec::new(heap),
         };
-        for line in 0..lines {
-            for row in 0..rows {
-                if let Some(ways) = ways.at(line, row) {
-                    for held in [true, false] {
-                        found.choose(heap, Statement { line, row, held }, ways.as_slice())?;
-                    }
-                }
+        for place in 0..lines.saturating_mul(rows) {
+            for held in [true, false] {
+                let least = found.choose(ways, place, held);
+                found.push(heap, ways, least)?;
             }
         }
         Ok(found)

@@ -19,7 +19,7 @@ pub struct World {
 impl World {
     // Finds out everything about a table and rows.
     pub fn of(heap: Global, rules: &[Rule], rows: &[Moment]) -> Result<World, AllocError> {
-        let ways = list_ways(heap, rules, rows)?;
+        let ways = list_ways(heap, rules, rows, false)?;
         let certificates = Certificates::of(heap, &ways, rules.len(), rows.len())?;
         Ok(World {
             rules: Vec::from_slice(heap, rules)?,
