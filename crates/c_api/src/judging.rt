@@ -1,5 +1,10 @@
 // Check and Settle on the two texts' table and log, over buffers that are long enough for every call.
 ghost use Rattle.std.specs.Prelude.{◌≡◌, length};
+ghost use Rattle.checker.specs.Told.{told as check_told};
+ghost use Rattle.logs.specs.contracts.mask.MaskLogReadable.TheImpl.{ghosts as MaskRows};
+ghost use Rattle.mtl.specs.Checking.{check_answer};
+ghost use Rattle.mtl.specs.Laws.{CheckSays};
+ghost use Rattle.mtl.specs.Tables.{lines_of};
 ghost use Rattle.c_api.specs.Meanings.{CheckFound, SettleFound};
 ghost use Rattle.c_api.specs.Outputs.{settle_bytes, overwritten};
 ghost use Rattle.c_api.specs.Readings.{telling, check_finds, settle_finds};
@@ -7,8 +12,21 @@ ghost use Rattle.c_api.specs.Readings.{telling, check_finds, settle_finds};
 use crate::inputs::{log_of, table_of};
 use crate::refusal::Refusal;
 use checker::check::check;
+use checker::fault::CheckFault;
+use logs::mask::MaskLog;
 use mtl::ruling::{Claim, Settled};
+use mtl::table::Table;
 use writer::settle::settle;
+
+// Check on a stack that is long enough. A function of its own, so that the stack is filled once: beside the reading of the texts
+// the compiler fills its 24 KiB before the reading too.
+fn judged(table: &Table, log: &MaskLog, certificate: &[u8]) -> Result<Claim, CheckFault>
+    ensures answer { check_told result ≡ check_answer (lines_of table.now) (MaskRows.rows log.now) certificate.now 4096 }
+    ensures says { CheckSays (lines_of table.now) (MaskRows.rows log.now) certificate.now 4096 (check_told result) }
+{
+    let mut stack = [Claim::BLANK; 4096];
+    check(table, log, certificate, &mut stack)
+}
 
 // The claim that a certificate proves on the texts' table and log.
 pub(crate) fn checked(rules: &[u8], log: &[u8], certificate: &[u8]) -> Result<Claim, Refusal>
@@ -17,8 +35,7 @@ pub(crate) fn checked(rules: &[u8], log: &[u8], certificate: &[u8]) -> Result<Cl
 {
     let table = table_of(rules)?;
     let log = log_of(log)?;
-    let mut stack = [Claim::BLANK; 4096];
-    check(&table, &log, certificate, &mut stack).map_err(Refusal::Check)
+    judged(&table, &log, certificate).map_err(Refusal::Check)
 }
 
 // The ruling of a line at a row of the texts' table and log, with its certificate in the output.
