@@ -1,40 +1,37 @@
 // Numbers in a text: digits with no leading zero.
-ghost use Rattle.std.specs.Prelude.{◌≡◌, true, false, MatchOption};
-ghost use Rattle.std.specs.Char.{is_ascii_digit};
-ghost use Rattle.std.specs.List.{list_all};
-ghost use Rattle.fields.specs.Numbers.{numeral, number_at, time_at};
+ghost use Rattle.std.specs.Prelude.{◌≡◌};
+ghost use Rattle.fields.specs.Numbers.{number_to, number_at, time_at};
 
 use mtl::row::Time;
-use std::str;
 
-fn all_digits(bytes: &[u8]) -> bool
-    ensures { result ≡ list_all is_ascii_digit bytes.now }
+// The number that a field writes, where it is at most `most`. A loop of its own, and not the library's `parse`: it reads the field once, and stops
+// at the first digit past 64 bits. By `parse` a field is read three times and to its end: for its digits, as text, and for its number.
+fn number_to(field: &[u8], most: u64) -> Option<u64>
+    ensures { result ≡ number_to most field.now }
 {
-    bytes.iter().all(|b| b.is_ascii_digit())
-}
-
-// The text of a field of digits, one at least, with no leading zero.
-#[tactic(auto, using(crate::proofs::Numerals::digits_all, crate::proofs::Numerals::digits_text))]
-fn numeral(field: &[u8]) -> Option<&str>
-    ensures { MatchOption result (numeral field.now ≡ false) (λ text. (numeral field.now ≡ true) × (text.now ≡ field.now)) }
-{
-    match field {
-        [] | [b'0', _, ..] => None,
-        _ if all_digits(field) => str::from_utf8(field).ok(),
-        _ => None,
+    if matches!(field, [] | [b'0', _, ..]) {
+        return None;
     }
+    let mut n = 0u64;
+    for b in field {
+        if !b.is_ascii_digit() {
+            return None;
+        }
+        n = n.checked_mul(10)?.checked_add(u64::from(*b - b'0'))?;
+    }
+    (n <= most).then_some(n)
 }
 
 // A number of 32 bits.
 pub fn number(field: &[u8]) -> Option<u32>
     ensures { result ≡ number_at field.now }
 {
-    numeral(field)?.parse::<u32>().ok()
+    number_to(field, u64::from(u32::MAX)).map(|n| n as u32)
 }
 
-// A row's time. By its own type, which need not stay that of numbers; one function over every type that parses could promise only what they all do.
+// A row's time. By its own type, which need not stay that of numbers.
 pub fn time(field: &[u8]) -> Option<Time>
     ensures { result ≡ time_at field.now }
 {
-    numeral(field)?.parse::<Time>().ok()
+    number_to(field, u64::from(Time::MAX)).map(|n| n as Time)
 }
