@@ -46,11 +46,13 @@ pub fn rows_of(heap: Global, moments: &[Moment]) -> Result<Vec<Row>, AllocError>
     moments.iter().map(|moment| row_of(*moment)).collect(heap)
 }
 
-// The bytes of a sheet with these rows, one after another. `log_trials` has this too: no crate below both has a heap.
+// The bytes of a sheet with these rows, one after another, written out here, since the library's order is what is compared.
+// `log_trials` has this too: no crate below both has a heap.
 pub fn sheet_bytes(heap: Global, rows: &[Row]) -> Result<Vec<u8>, AllocError> {
     let mut bytes = Vec::new(heap);
     for row in rows {
-        bytes.extend_from_slice(&<[u8; 8]>::from(*row))?;
+        bytes.extend_from_slice(&row.time.to_be_bytes())?;
+        bytes.extend_from_slice(&row.marks.to_be_bytes())?;
     }
     Ok(bytes)
 }

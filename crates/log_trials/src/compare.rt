@@ -3,6 +3,11 @@ use logs::fault::ReadFault;
 use logs::traits::Readable;
 use mtl::row::Row;
 
+// Whether the mark's bit is set in the row's word: a test of the trials' own, since the logs answer by the library's `stands`.
+fn has_mark(row: Row, mark: u32) -> bool {
+    mark < 32 && row.marks & (1 << mark) != 0
+}
+
 // How many answers were compared, and how many of them differ.
 #[derive(Clone, Copy, Default)]
 pub struct Tally {
@@ -23,7 +28,7 @@ impl Tally {
             let held = rows.get(row).copied().ok_or(ReadFault::NoSuchRow);
             self.count(log.time(row) == held.map(|held| held.time));
             for mark in 0..=32 {
-                self.count(log.mark(row, mark) == held.map(|held| held.stands(mark)));
+                self.count(log.mark(row, mark) == held.map(|held| has_mark(held, mark)));
             }
         }
     }

@@ -43,11 +43,13 @@ pub(crate) fn busy() -> [Row; 17] {
     })
 }
 
-// The bytes of a sheet with these rows. `comparison` has this too: no crate below both has a heap.
+// The bytes of a sheet with these rows, written out here, since the library's order is what is tried. `comparison` has this too: no
+// crate below both has a heap.
 pub(crate) fn sheet_bytes(heap: Global, rows: &[Row]) -> Result<Vec<u8>, AllocError> {
     let mut bytes = Vec::new(heap);
     for row in rows {
-        bytes.extend_from_slice(&<[u8; 8]>::from(*row))?;
+        bytes.extend_from_slice(&row.time.to_be_bytes())?;
+        bytes.extend_from_slice(&row.marks.to_be_bytes())?;
     }
     Ok(bytes)
 }

@@ -42,27 +42,32 @@ fn try_growing<L: Growing>(
     println!(rt; "  {kind}: {taken} rows taken, then told {told}; past the end told {past}")
 }
 
-// Compares what was read of a sheet, and prints how much it is and what was told.
-fn show_read<L: Readable>(
+// Compares a sheet with the rows, and prints how many it has and what was told.
+fn show_read(
     rt: &impl Print,
-    read: &L,
+    sheet: Sheet,
     rows: &[Row],
     refusal: Option<SheetFault>,
     tally: &mut Tally,
 ) -> io::Result<()> {
     let told = Told::from(refusal);
-    let past = Told::from(refusal_past_end(read));
-    let len = read.len();
-    tally.compare(read, rows);
+    let past = Told::from(refusal_past_end(&sheet));
+    let len = sheet.len();
+    tally.compare(&sheet, rows);
     println!(rt; "  sheet: {len} rows read, told {told}; past the end told {past}")
 }
 
-// Reads the rows' bytes as a sheet; of bytes that are refused there are no rows.
+// The sheet over no bytes, which are never refused.
+fn empty_sheet() -> Sheet<'static> {
+    Sheet::read(&[]).unwrap()
+}
+
+// Reads the rows' bytes as a sheet. Bytes that are refused leave no sheet, so the empty one is asked in its place.
 fn try_sheet(rt: &impl Print, heap: Global, rows: &[Row], tally: &mut Tally) -> io::Result<()> {
     let bytes = inputs::sheet_bytes(heap, rows)?;
     match Sheet::read(&bytes) {
-        Ok(sheet) => show_read(rt, &sheet, rows, None, tally),
-        Err(fault) => show_read(rt, &MaskLog::new(), &[], Some(fault), tally),
+        Ok(sheet) => show_read(rt, sheet, rows, None, tally),
+        Err(fault) => show_read(rt, empty_sheet(), &[], Some(fault), tally),
     }
 }
 
