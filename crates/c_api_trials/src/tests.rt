@@ -12,23 +12,36 @@ const LOG: &[u8] = b"time clamp heel\n0 1 0\n2 1 1\n4 1 0\n4 0 0\n9 1 0\n";
 // Line 2 broken at row 3.
 const CERTIFICATE: [u8; 18] = [0, 2, 0, 3, 0, 0, 1, 2, 0, 3, 0, 0, 2, 21, 0, 3, 0, 2];
 
+// No refusal, written out: the values are the tests' own.
+const NOTHING: Refused = Refused {
+    number: 0,
+    text: 0,
+    layer: 0,
+    line: 0,
+    field: 0,
+    node: 0,
+};
+
 fn refused_check(refusal: Refused) -> CheckAnswer {
     CheckAnswer {
         refusal,
-        ..CheckAnswer::default()
+        line: 0,
+        row: 0,
+        ruling: 0,
     }
 }
 
 fn refused_settle(refusal: Refused) -> SettleAnswer {
     SettleAnswer {
         refusal,
-        ..SettleAnswer::default()
+        ruling: 0,
+        size: 0,
     }
 }
 
 #[test]
 fn texts_are_read(rt: HostRuntime) {
-    let refusal = Refused::default();
+    let refusal = NOTHING;
     assert_eq!(rt;
         sanqizhet_read_rules_nonnull(RULES),
         ReadAnswer { refusal, count: 3 }
@@ -49,7 +62,7 @@ fn faulty_texts_are_refused(rt: HostRuntime) {
         layer: 1,
         line: 3,
         field: 5,
-        ..Refused::default()
+        node: 0,
     };
     assert_eq!(rt;
         sanqizhet_read_rules_nonnull(rules),
@@ -64,7 +77,8 @@ fn faulty_texts_are_refused(rt: HostRuntime) {
         text: 2,
         layer: 3,
         line: 4,
-        ..Refused::default()
+        field: 0,
+        node: 0,
     };
     assert_eq!(rt;
         sanqizhet_read_log_nonnull(log),
@@ -91,7 +105,7 @@ fn faulty_texts_are_refused(rt: HostRuntime) {
 fn settled_is_checked(rt: HostRuntime) {
     let mut out = [9; 20];
     let settled = SettleAnswer {
-        refusal: Refused::default(),
+        refusal: NOTHING,
         ruling: 2,
         size: 3,
     };
@@ -102,7 +116,7 @@ fn settled_is_checked(rt: HostRuntime) {
     assert!(rt; &out[..18] == &CERTIFICATE[..]);
     assert!(rt; &out[18..] == &[9, 9][..]);
     let claim = CheckAnswer {
-        refusal: Refused::default(),
+        refusal: NOTHING,
         line: 2,
         row: 3,
         ruling: 2,
@@ -118,7 +132,7 @@ fn damaged_is_refused(rt: HostRuntime) {
     let rule = Refused {
         number: 15,
         node: 2,
-        ..Refused::default()
+        ..NOTHING
     };
     assert_eq!(rt;
         sanqizhet_check_nonnull(RULES, LOG, &damaged),
@@ -126,7 +140,7 @@ fn damaged_is_refused(rt: HostRuntime) {
     );
     let none = Refused {
         number: 11,
-        ..Refused::default()
+        ..NOTHING
     };
     assert_eq!(rt;
         sanqizhet_check_nonnull(RULES, LOG, &[]),
@@ -140,7 +154,7 @@ fn short_output_is_refused(rt: HostRuntime) {
     let mut out = [9; 17];
     let short = Refused {
         number: 26,
-        ..Refused::default()
+        ..NOTHING
     };
     assert_eq!(rt;
         sanqizhet_settle_nonnull(RULES, LOG, 2, 3, &mut out),
