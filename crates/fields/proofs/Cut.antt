@@ -1,8 +1,8 @@
 -- The first line of a text.
-use Rattle.std.proofs.Common.{◌≡◌, ℕ, ◌+◌, ◌<◌, ◌≤◌, Bool, true, false, not, eqb, cond, suc, List, [], ◌∷◌, ◌++◌, length, take, drop, sym, refl, ap, ◌∙◌, append_assoc, arith}
+use Rattle.std.proofs.Common.{◌≡◌, ℕ, ◌+◌, ◌-◌, ◌<◌, ◌≤◌, Bool, true, false, not, eqb, cond, suc, List, [], ◌∷◌, ◌++◌, length, take, drop, sym, refl, ap, ◌∙◌, append_assoc, arith}
 use Rattle.std.specs.List.{position_or_len}
 use Rattle.std.proofs.lemmas.Bool.{cond_both}
-use Rattle.std.proofs.lemmas.List.{append-nil}
+use Rattle.std.proofs.lemmas.List.{append-nil, take_rest, length-drop}
 use Rattle.fields.specs.Cuts.{lines_on, lines_of}
 
 lines_few_on : (w bs : List ℕ) → length (lines_on w bs) ≤ length bs
@@ -38,6 +38,13 @@ first_at false w bs b n is more h =
     let two : suc (end_of bs + 1) ≡ n + 1 = omega arith in
     more (omega arith) ∙ ap (λ v. v ∷ lines_of (drop (end_of bs + 1) bs)) (append_assoc w (b ∷ []) (take (end_of bs) bs)) ∙ (λ i. (w ++ take (one i) (b ∷ bs)) ∷ lines_of (drop (two i) (b ∷ bs)))
 
-pub first_end : (w bs : List ℕ) → end_of bs < length bs → lines_on w bs ≡ (w ++ take (end_of bs) bs) ∷ lines_of (drop (end_of bs + 1) bs)
+first_end : (w bs : List ℕ) → end_of bs < length bs → lines_on w bs ≡ (w ++ take (end_of bs) bs) ∷ lines_of (drop (end_of bs + 1) bs)
 first_end w [] h = absurd (omega arith)
 first_end w (b ∷ bs) h = first_at (eqb b 10) w bs b (end_of (b ∷ bs)) refl (first_end (w ++ b ∷ []) bs) (omega arith)
+
+-- the first line and the rest, as two slices of the text
+pub cut_line : (s : List ℕ) (i : ℕ) → i ≡ end_of s → i < length s → lines_of s ≡ take i s ∷ lines_of (take (length s - (i + 1)) (drop (i + 1) s))
+cut_line s i is h = first_end [] s (omega arith) ∙ (λ k. take (sym is k) s ∷ lines_of (drop (sym is k + 1) s)) ∙ ap (λ r. take i s ∷ lines_of r) (sym (take_rest s (i + 1)))
+
+pub cut_rest : (s : List ℕ) (i : ℕ) → i < length s → length (take (length s - (i + 1)) (drop (i + 1) s)) < length s
+cut_rest s i h = omega (arith, ap length (take_rest s (i + 1)), length-drop (i + 1) s)

@@ -14,7 +14,7 @@ fn line_end(text: &[u8]) -> Option<usize>
 }
 
 // The first line of a text, and the rest; none where no line ends.
-#[tactic(auto, using(crate::proofs::Cut::no_end))]
+#[tactic(auto, using(crate::proofs::Cut::no_end, crate::proofs::Cut::cut_line, crate::proofs::Cut::cut_rest))]
 pub fn first_line<'a>(text: &'a [u8]) -> Option<FirstLine<'a>>
     ensures { CutsFirst result text.now }
 {
