@@ -28,3 +28,7 @@ fits_more T l old new n h =
     (λ k lt. ap (fits k) (get_or-append T (l ∷ []) (mark 0) k lt) ∙ old k lt)
     (ap (fits (length T)) (get_or-append_seam T l [] (mark 0)) ∙ new)
     n (omega (arith, length-append T (l ∷ [])))
+
+-- a list that is one more line which fits
+pub entered_fits : (T : Rules) (l : Line) (after : Rules) → after ≡ T ++ l ∷ [] → WellFormed T → fits (length T) l ≡ true → WellFormed after
+entered_fits T l after is old new = subst WellFormed (sym is) (fits_more T l old new)

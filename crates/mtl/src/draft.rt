@@ -34,6 +34,7 @@ impl Draft {
     }
 
     // Enters the next line, or tells the first question that is answered no. By its letter, a wanted form (docs/DECISIONS.md).
+    #[tactic(auto, using(crate::proofs::Entered::entered_fits))]
     pub fn enter(&mut self, letter: char, fields: Fields) -> Result<(), LineFault>
         ensures answer { told result ≡ enter_answer (entered self.old) letter fields }
         ensures lines { entered self.new ≡ lines_after (entered self.old) letter fields }
