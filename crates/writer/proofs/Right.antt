@@ -1,5 +1,5 @@
 -- The cells that the code works out are those of the shortest certificates.
-use Rattle.std.proofs.Common.{◌≡◌, ℕ, zero, suc, ◌+◌, ◌*◌, ◌<◌, ◌≤◌, min, Bool, true, false, cond, not, T as Yes, ltb, leb, List, [], ◌∷◌, ◌++◌, length, get_or, sym, refl, ap, ◌∙◌, subst, ap₂, arith, ltb→lt, lt→ltb, leb→le}
+use Rattle.std.proofs.Common.{◌≡◌, ℕ, zero, suc, ◌+◌, ◌*◌, ◌/◌, ◌%◌, ◌<◌, ◌≤◌, min, Bool, true, false, cond, not, T as Yes, ltb, leb, eqb, List, [], ◌∷◌, ◌++◌, length, get_or, sym, refl, ap, ◌∙◌, subst, ap₂, arith, ltb→lt, lt→ltb, leb→le}
 use lib.Dec.{nleb→lt}
 use native.Mathlib.Decide.{dec_lt}
 use Rattle.mtl.specs.Cells.{add_cell, lower_cell, sum_cells, best_cell, first_of}
@@ -206,3 +206,10 @@ module _ (T : Rules) (wf : WellFormed T) (R : List Row) where
       let z = k ∙ best_right few p s old c e l in
       let d = sym (ap claim_at at ∙ claim_of c h) in
       (ap (λ (x : Best). x.size) z ∙ size_is c ∙ ap (cell_of T R) d, ap (λ (x : Best). x.code) z ∙ ap (λ x. (best_by (cell_of T R) T R x).code) d)
+
+  -- cells of no line or no row
+  pub absent : (p : ℕ) → (p / 256 < length T → length R ≤ p % 256 / 2) → (size_at T R p ≡ 0) × (code_at T R p ≡ 0)
+  unfolding size_at code_at
+  absent p h =
+      let b = best_out (cell_of T R) T R (p / 256) (p % 256 / 2) (cond (eqb (p % 2) 0) held broken) h in
+      (sym (size_is (claim_at p)) ∙ ap (λ (x : Best). x.size) (sym b), ap (λ (x : Best). x.code) (sym b))

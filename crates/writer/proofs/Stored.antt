@@ -1,7 +1,7 @@
 -- A table of which a front is filled.
-use Rattle.std.proofs.Common.{◌≡◌, ℕ, zero, suc, ◌+◌, ◌-◌, ◌*◌, ◌/◌, ◌%◌, ◌<◌, ◌≤◌, cond, eqb, List, [], ◌∷◌, ◌++◌, map, length, get_or, drop, set, sym, refl, ap, ◌∙◌, ap₂, append_assoc, arith, drop-cons, drop-drop}
+use Rattle.std.proofs.Common.{◌≡◌, ℕ, zero, suc, ◌+◌, ◌-◌, ◌*◌, ◌/◌, ◌%◌, ◌<◌, ◌≤◌, cond, eqb, List, [], ◌∷◌, ◌++◌, map, length, get_or, take, drop, set, replicate, sym, refl, ap, ◌∙◌, ap₂, append_assoc, arith, drop-cons, drop-drop}
 use lib.ListN.{get_or-append}
-use lib.Seq.{set_at, drop-append-add}
+use lib.Seq.{set_at, drop-append-add, take-append_seam}
 use Rattle.std.proofs.lemmas.List.{map-append}
 use Rattle.mtl.specs.Buffers.{claim_at}
 use Rattle.mtl.specs.Claims.{claim}
@@ -34,13 +34,16 @@ filled_get f n k old h =
     let z : 0 + k ≡ k = omega arith in
     get_or-append (map f (run 0 n)) (drop n old) 0 k e ∙ get_run f 0 0 n k h ∙ ap f z
 
-pub filled_over : (f : ℕ → ℕ) (m n : ℕ) (old : List ℕ) → m ≤ n → filled f n (filled f m old) ≡ filled f n old
+drop_over : (f : ℕ → ℕ) (m n : ℕ) (old : List ℕ) → m ≤ n → drop n (filled f m old) ≡ drop n old
 unfolding filled
-filled_over f m n old h =
+drop_over f m n old h =
     let e : n ≡ length (map f (run 0 m)) + (n - m) = omega (arith, length_run f 0 m) in
     let d : m + (n - m) ≡ n = omega arith in
-    ap (λ xs. map f (run 0 n) ++ xs)
-    (ap (λ k. drop k (map f (run 0 m) ++ drop m old)) e ∙ drop-append-add (map f (run 0 m)) (drop m old) (n - m) ∙ drop-drop (n - m) m old ∙ ap (λ k. drop k old) d)
+    ap (λ k. drop k (map f (run 0 m) ++ drop m old)) e ∙ drop-append-add (map f (run 0 m)) (drop m old) (n - m) ∙ drop-drop (n - m) m old ∙ ap (λ k. drop k old) d
+
+pub filled_over : (f : ℕ → ℕ) (m n : ℕ) (old : List ℕ) → m ≤ n → filled f n (filled f m old) ≡ filled f n old
+unfolding filled
+filled_over f m n old h = ap (λ xs. map f (run 0 n) ++ xs) (drop_over f m n old h)
 
 pub filled_set : (f : ℕ → ℕ) (n v : ℕ) (old : List ℕ) → n < length old → v ≡ f n → set (filled f n old) n v ≡ filled f (suc n) old
 unfolding filled
@@ -77,3 +80,31 @@ claim_of c h = elim c.ruling as (λ r. claim_at (place (claim c.line c.row r)) �
 -- a filled front stays one
 pub filled_on : (f : ℕ → ℕ) (n m : ℕ) (s old : List ℕ) → m ≡ n → s ≡ filled f n old → s ≡ filled f m s
 filled_on f n m s old e h = h ∙ sym (filled_over f n n old (omega arith)) ∙ ap₂ (filled f) (sym e) (sym h)
+
+run_both : (a m n : ℕ) → run a (m + n) ≡ run a m ++ run (a + m) n
+unfolding run
+run_both a zero n = let e : a ≡ a + 0 = omega arith in let z : 0 + n ≡ n = omega arith in ap₂ run e z
+run_both a (suc m) n =
+    let e : suc m + n ≡ suc (m + n) = omega arith in
+    let z : suc a + m ≡ a + suc m = omega arith in
+    ap (run a) e ∙ ap (λ xs. a ∷ xs) (run_both (suc a) m n ∙ ap (λ x. run (suc a) m ++ run x n) z)
+
+zero_run : (f : ℕ → ℕ) (a n : ℕ) → ((k : ℕ) → a ≤ k → k < a + n → f k ≡ 0) → replicate n 0 ≡ map f (run a n)
+unfolding run
+zero_run f a zero h = refl
+zero_run f a (suc n) h = ap₂ (λ x xs. x ∷ xs) (sym (h a (omega arith) (omega arith))) (zero_run f (suc a) n (λ k p q. h k (omega arith) (omega arith)))
+
+-- cells in which 0 belongs
+pub filled_blank : (f : ℕ → ℕ) (m n : ℕ) (s old : List ℕ) → s ≡ filled f m old → m ≤ n → ((k : ℕ) → m ≤ k → k < n → f k ≡ 0) →
+    take m s ++ (replicate (n - m) 0 ++ drop n s) ≡ filled f n old
+unfolding filled
+filled_blank f m n s old h l z =
+    let d : m + (n - m) ≡ n = omega arith in
+    let o : 0 + m ≡ m = omega arith in
+    let xs = map f (run 0 m) in
+    let front : take m s ≡ xs = ap (take m) h ∙ ap (λ k. take k (xs ++ drop m old)) (sym (length_run f 0 m)) ∙ take-append_seam xs (drop m old) in
+    let blank : replicate (n - m) 0 ≡ map f (run m (n - m)) = zero_run f m (n - m) (λ k p q. z k p (omega arith)) in
+    let back : drop n s ≡ drop n old = ap (drop n) h ∙ drop_over f m n old l in
+    ap (λ t. t ++ (replicate (n - m) 0 ++ drop n s)) front ∙ ap₂ (λ t u. xs ++ (t ++ u)) blank back ∙
+    sym (append_assoc xs (map f (run m (n - m))) (drop n old)) ∙
+    ap (λ t. t ++ drop n old) (sym (map-append f (run 0 m) (run m (n - m))) ∙ ap (λ k. map f (run 0 m ++ run k (n - m))) (sym o) ∙ ap (map f) (sym (run_both 0 m (n - m))) ∙ ap (λ k. map f (run 0 k)) d)

@@ -1,11 +1,8 @@
 // The least way to rule a line at a row, by the cells of earlier lines.
-ghost use Rattle.std.specs.Prelude.{◌≡◌};
-ghost use Rattle.mtl.specs.Claims.{claim};
+ghost use Rattle.std.specs.Prelude.{◌≡◌, ◌<◌, length};
 ghost use Rattle.mtl.specs.Forms.{forms};
-ghost use Rattle.mtl.specs.Tables.{lines_of};
 ghost use Rattle.mtl.specs.declared.ruling.Ruling.TheVariants.{Held as held, Broken as broken};
 ghost use Rattle.writer.specs.Choice.{cell_in, of_forms, cells_of};
-ghost use Rattle.writer.specs.Tables.{best_by};
 
 use crate::children::{by_both, by_either, by_one};
 use crate::known::Known;
@@ -17,7 +14,6 @@ use crate::sums::{ONE, offered};
 use crate::until::{until_broken, until_held};
 use mtl::line::Line;
 use mtl::ruling::Ruling;
-use mtl::table::Table;
 
 // Held and broken have rules of their own at every kind, so each has its match.
 fn held_at(known: Known<'_>, line: Line) -> Option<Offer>
@@ -52,22 +48,18 @@ fn broken_at(known: Known<'_>, line: Line) -> Option<Offer>
     }
 }
 
-// What belongs into the cells of a claim: none without line or row. Inlined, so that a row past the log's end costs no call.
+// The least way to rule a line at a row. Inlined: as a call it would be given each field of the line anew at every row.
 #[inline(always)]
 pub(crate) fn best<'a>(
-    table: &Table,
+    line: Line,
     rows: Rows<'a>,
     sizes: &'a [u16],
-    line: usize,
     row: usize,
     ruling: Ruling,
 ) -> Option<Offer>
-    ensures { cells_of result ≡ best_by (cell_in sizes.now) (lines_of table.now) rows.entry.all.now (claim line row ruling) }
+    requires { row < length rows.all.now }
+    ensures { cells_of result ≡ of_forms (cell_in sizes.now) ruling (forms rows.entry.all.now row line) }
 {
-    if row >= rows.all.len() {
-        return None;
-    }
-    let line = table.line(line)?;
     let spot = Spot { rows, row };
     let known = Known { spot, sizes };
     match ruling {
