@@ -1,8 +1,8 @@
 -- A table of which a front is filled.
 use Rattle.std.proofs.Common.{◌≡◌, ℕ, zero, suc, ◌+◌, ◌-◌, ◌*◌, ◌/◌, ◌%◌, ◌<◌, ◌≤◌, cond, eqb, List, [], ◌∷◌, ◌++◌, map, length, get_or, take, drop, set, replicate, sym, refl, ap, ◌∙◌, ap₂, append_assoc, arith, drop-cons, drop-drop}
 use lib.ListN.{get_or-append}
-use lib.Seq.{set_at, drop-append-add, take-append_seam}
-use Rattle.std.proofs.lemmas.List.{map-append}
+use lib.Seq.{set_at, drop-append-add, take-append-add, take-append_seam}
+use Rattle.std.proofs.lemmas.List.{map-append, drop-take}
 use Rattle.mtl.specs.Buffers.{claim_at}
 use Rattle.mtl.specs.Claims.{claim}
 use Rattle.mtl.specs.declared.ruling.Claim.{Claim}
@@ -108,3 +108,12 @@ filled_blank f m n s old h l z =
     ap (λ t. t ++ (replicate (n - m) 0 ++ drop n s)) front ∙ ap₂ (λ t u. xs ++ (t ++ u)) blank back ∙
     sym (append_assoc xs (map f (run m (n - m))) (drop n old)) ∙
     ap (λ t. t ++ drop n old) (sym (map-append f (run 0 m) (run m (n - m))) ∙ ap (λ k. map f (run 0 m ++ run k (n - m))) (sym o) ∙ ap (map f) (sym (run_both 0 m (n - m))) ∙ ap (λ k. map f (run 0 k)) d)
+
+-- the front of a table that is filled within it
+pub filled_take : (f : ℕ → ℕ) (m n : ℕ) (s old : List ℕ) → s ≡ filled f m old → m ≤ n → take n s ≡ filled f m (take n old)
+unfolding filled
+filled_take f m n s old h l =
+    let e : n ≡ length (map f (run 0 m)) + (n - m) = omega (arith, length_run f 0 m) in
+    let d : m + (n - m) ≡ n = omega arith in
+    ap (take n) h ∙ ap (λ k. take k (map f (run 0 m) ++ drop m old)) e ∙ take-append-add (map f (run 0 m)) (drop m old) (n - m) ∙
+    ap (λ t. map f (run 0 m) ++ t) (sym (drop-take m (n - m) old) ∙ ap (λ k. drop m (take k old)) d)

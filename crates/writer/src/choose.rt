@@ -57,7 +57,7 @@ pub(crate) fn best<'a>(
     row: usize,
     ruling: Ruling,
 ) -> Option<Offer>
-    requires { row < length rows.all.now }
+    requires { (row < length rows.all.now) × (length sizes.now ≡ 8192) }
     ensures { cells_of result ≡ of_forms (cell_in sizes.now) ruling (forms rows.entry.all.now row line) }
 {
     let spot = Spot { rows, row };

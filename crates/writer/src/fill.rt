@@ -38,8 +38,9 @@ pub(crate) fn fill(table: &Table, rows: Rows<'_>, sizes: &mut [u16], plan: &mut 
     let lines = table.lines();
     for (number, line) in lines.iter().enumerate() {
         for row in 0..rows.all.len() {
-            let held = entries(best(*line, rows, sizes, row, Ruling::Held));
-            let broken = entries(best(*line, rows, sizes, row, Ruling::Broken));
+            let front = &sizes[..8192];
+            let held = entries(best(*line, rows, front, row, Ruling::Held));
+            let broken = entries(best(*line, rows, front, row, Ruling::Broken));
             let at = 256 * number + 2 * row;
             put(sizes, at, held.0, broken.0);
             put(plan, at, held.1, broken.1);

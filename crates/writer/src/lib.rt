@@ -4,6 +4,7 @@
 mod cells;
 mod children;
 mod choose;
+mod column;
 pub mod fault;
 mod fill;
 mod known;

@@ -17,6 +17,8 @@ pub(crate) fn since_held(known: Known<'_>, window: Window, left: u8, right: u8) 
     ensures { cells_of result ≡ of_forms (cell_in known.entry.sizes.now) held (forms known.entry.spot.rows.all.now known.entry.spot.row (since window left right)) }
 {
     let spot = known.spot;
+    let lefts = known.line(left);
+    let rights = known.line(right);
     let mut best = None;
     let mut sum = ONE;
     let start = spot.first_within(window);
@@ -26,10 +28,10 @@ pub(crate) fn since_held(known: Known<'_>, window: Window, left: u8, right: u8) 
         }
         let met = window.from <= spot.before(j);
         best = better(
-            offered(met, plus(sum, known.size(right, j, Ruling::Held)), 20, j),
+            offered(met, plus(sum, rights.size(j, Ruling::Held)), 20, j),
             best,
         );
-        sum = plus(sum, known.size(left, j, Ruling::Held));
+        sum = plus(sum, lefts.size(j, Ruling::Held));
     }
     best
 }
@@ -38,6 +40,8 @@ pub(crate) fn since_broken(known: Known<'_>, window: Window, left: u8, right: u8
     ensures { cells_of result ≡ of_forms (cell_in known.entry.sizes.now) broken (forms known.entry.spot.rows.all.now known.entry.spot.row (since window left right)) }
 {
     let spot = known.spot;
+    let lefts = known.line(left);
+    let rights = known.line(right);
     let longest = spot.before(0);
     if longest < window.from {
         return offered(true, ONE, 23, 0);
@@ -47,16 +51,16 @@ pub(crate) fn since_broken(known: Known<'_>, window: Window, left: u8, right: u8
     let start = spot.first_within(window);
     for j in (start + 1..spot.row + 1).rev() {
         let far = window.from <= spot.before(j);
-        late = plus_if(far, late, known.size(right, j, Ruling::Broken));
+        late = plus_if(far, late, rights.size(j, Ruling::Broken));
         if late.is_none() {
             return best;
         }
         best = better(
-            offered(true, plus(late, known.size(left, j, Ruling::Broken)), 21, j),
+            offered(true, plus(late, lefts.size(j, Ruling::Broken)), 21, j),
             best,
         );
     }
     let far = window.from <= spot.before(start);
-    let whole = plus_if(far, late, known.size(right, start, Ruling::Broken));
+    let whole = plus_if(far, late, rights.size(start, Ruling::Broken));
     better(best, offered(true, whole, 22, 0))
 }

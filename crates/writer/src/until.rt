@@ -19,6 +19,8 @@ pub(crate) fn until_held(known: Known<'_>, window: Window, left: u8, right: u8) 
     ensures { cells_of result ≡ of_forms (cell_in known.entry.sizes.now) held (forms known.entry.spot.rows.all.now known.entry.spot.row (until window left right)) }
 {
     let spot = known.spot;
+    let lefts = known.line(left);
+    let rights = known.line(right);
     let mut best = None;
     let mut sum = ONE;
     let end = spot.end_within(window);
@@ -27,9 +29,9 @@ pub(crate) fn until_held(known: Known<'_>, window: Window, left: u8, right: u8) 
             break;
         }
         let met = window.from <= spot.after(j);
-        let way = offered(met, plus(sum, known.size(right, j, Ruling::Held)), 24, j);
+        let way = offered(met, plus(sum, rights.size(j, Ruling::Held)), 24, j);
         best = better(best, way);
-        sum = plus(sum, known.size(left, j, Ruling::Held));
+        sum = plus(sum, lefts.size(j, Ruling::Held));
     }
     best
 }
@@ -45,18 +47,20 @@ pub(crate) fn until_broken(known: Known<'_>, window: Window, left: u8, right: u8
     ensures { cells_of result ≡ of_forms (cell_in known.entry.sizes.now) broken (forms known.entry.spot.rows.all.now known.entry.spot.row (until window left right)) }
 {
     let spot = known.spot;
+    let lefts = known.line(left);
+    let rights = known.line(right);
     let mut best = None;
     let mut late = ONE;
     let end = spot.end_within(window);
     for j in spot.row..end {
         let far = window.from <= spot.after(j);
-        late = plus_if(far, late, known.size(right, j, Ruling::Broken));
+        late = plus_if(far, late, rights.size(j, Ruling::Broken));
         if late.is_none() {
             return best;
         }
         best = better(
             best,
-            offered(true, plus(late, known.size(left, j, Ruling::Broken)), 25, j),
+            offered(true, plus(late, lefts.size(j, Ruling::Broken)), 25, j),
         );
     }
     better(best, offered(has_closed(spot, window), late, 26, 0))
