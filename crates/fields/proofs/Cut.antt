@@ -38,7 +38,7 @@ first_at false w bs b n is more h =
     let two : suc (end_of bs + 1) ≡ n + 1 = omega arith in
     more (omega arith) ∙ ap (λ v. v ∷ lines_of (drop (end_of bs + 1) bs)) (append_assoc w (b ∷ []) (take (end_of bs) bs)) ∙ (λ i. (w ++ take (one i) (b ∷ bs)) ∷ lines_of (drop (two i) (b ∷ bs)))
 
-first_end : (w bs : List ℕ) → end_of bs < length bs → lines_on w bs ≡ (w ++ take (end_of bs) bs) ∷ lines_of (drop (end_of bs + 1) bs)
+pub first_end : (w bs : List ℕ) → end_of bs < length bs → lines_on w bs ≡ (w ++ take (end_of bs) bs) ∷ lines_of (drop (end_of bs + 1) bs)
 first_end w [] h = absurd (omega arith)
 first_end w (b ∷ bs) h = first_at (eqb b 10) w bs b (end_of (b ∷ bs)) refl (first_end (w ++ b ∷ []) bs) (omega arith)
 
